@@ -1,0 +1,5 @@
+pub mod Numbers
+pub mod Keys
+pub mod Journal
+pub mod Legal
+pub mod Candidates

@@ -1,0 +1,47 @@
+-- The read-terms of a text, one after the other.
+use Rattle.std.proofs.Common.{◌≡◌, ℕ, ◌+◌, ◌<◌, List, [], ◌∷◌, Bool, true, false, cond, refl, ap, arith}
+use Rattle.prolog_terms.specs.declared.ops.Operator.{Operator}
+use Rattle.prolog_reader.specs.Streams.{Stream, ended, refused, token}
+use Rattle.prolog_reader.specs.Texts.{Sentence, is_stop, upto, tail, size, sentences, before, read_of, answer_of}
+use Rattle.prolog_reader.specs.declared.token.Token.{Token}
+use Rattle.prolog_reader.specs.declared.reader.Ended.{Ended}
+use Rattle.prolog_reader.specs.declared.reader.Ended.TheVariants.{Stopped, Out, Faulty}
+
+-- the read-term at the front of a text
+abbrev pub first_of : Stream → Sentence
+first_of s = record { tokens = upto s; how = (tail s).how }
+
+-- the read-terms after one that ends so: those of the rest, where an End was met
+abbrev pub later : Ended → Stream → List Sentence
+later (Stopped line) rest = sentences rest
+later Out rest = []
+later (Faulty f) rest = []
+
+unfold_token : (b : Bool) (t : Token) (rest : Stream) → sentences rest ≡ first_of rest ∷ later (tail rest).how (tail rest).rest
+    → before b t (sentences rest) ≡ record { tokens = cond b [] (t ∷ upto rest); how = (cond b (record { how = Stopped t.line; rest = rest }) (tail rest)).how }
+    ∷ later (cond b (record { how = Stopped t.line; rest = rest }) (tail rest)).how (cond b (record { how = Stopped t.line; rest = rest }) (tail rest)).rest
+unfold_token true t rest e = refl
+unfold_token false t rest e = ap (before false t) e
+
+-- the read-terms of a text are the first, and those after it
+pub sentences-unfold : (s : Stream) → sentences s ≡ first_of s ∷ later (tail s).how (tail s).rest
+sentences-unfold ended = refl
+sentences-unfold (refused f) = refl
+sentences-unfold (token t rest) = unfold_token (is_stop t.kind) t rest (sentences-unfold rest)
+
+-- what the first is answered
+pub read_of-first : (ops : List Operator) (s : Stream) → read_of ops s ≡ answer_of ops (first_of s)
+unfolding read_of
+read_of-first ops s = refl
+
+shorter_token : (b : Bool) (t : Token) (rest : Stream) (line : ℕ) → ((n : ℕ) → (tail rest).how ≡ Stopped n → size (tail rest).rest < size rest)
+    → (cond b (record { how = Stopped t.line; rest = rest }) (tail rest)).how ≡ Stopped line
+    → size (cond b (record { how = Stopped t.line; rest = rest }) (tail rest)).rest < 1 + size rest
+shorter_token true t rest line shorter e = omega arith
+shorter_token false t rest line shorter e = omega (arith, shorter line e)
+
+-- an End makes the rest shorter
+pub size-rest : (s : Stream) (line : ℕ) → (tail s).how ≡ Stopped line → size (tail s).rest < size s
+size-rest ended line e = cc
+size-rest (refused f) line e = cc
+size-rest (token t rest) line e = shorter_token (is_stop t.kind) t rest line (size-rest rest) e

@@ -1,0 +1,9 @@
+pub mod Classes
+pub mod Pieces
+pub mod Streams
+pub mod Tokens
+pub mod Grammar
+pub mod Reads
+pub mod Texts
+pub mod Stacks
+pub mod Frames

@@ -1,0 +1,28 @@
+//! Terms of Prolog, clauses and journal entries, errors and the operator table.
+//!
+//! A term is a finite tree. It is kept flat, as its nodes in prefix order, and contracts see it as the tree
+//! (`specs/Tree.antt`). No call here recurses on a term, so no depth is too great.
+#![tactic(auto)]
+
+mod entry;
+mod fault;
+mod name;
+mod node;
+mod ops;
+mod term;
+#[cfg(test)]
+mod tests;
+mod want;
+mod whole;
+
+pub use entry::{
+    Clause, End, Entries, Entry, Indicator, Kind, What, copy_clause, copy_entry, copy_indicator,
+    term_indicator,
+};
+pub use fault::{Fault, fault_term};
+pub use name::Name;
+pub use node::Node;
+pub use ops::{OpKind, Operator, Ops};
+pub use term::Term;
+pub use want::Want;
+pub use whole::{WHOLE_MAX, WHOLE_MIN, Whole};

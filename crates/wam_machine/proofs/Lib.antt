@@ -1,0 +1,11 @@
+pub mod Laws
+pub mod Lists
+pub mod Walking
+pub mod Enough
+pub mod NodeKeys
+pub mod Scans
+pub mod Moves
+pub mod Same
+pub mod Tried
+pub mod Steps
+pub mod Led

@@ -1,0 +1,9 @@
+use Rattle.std.proofs.Common.{◌≤◌, arith}
+use Rattle.wam_machine.proofs.Laws.{Runs-one, Runs-within}
+use Rattle.wam_machine.proofs.law.transcript.Goals as goal
+
+pub returns-clause-one : goal.returns-clause-one
+returns-clause-one c = λ x goal fronts r q h k. Runs-one x r q h k
+
+pub returns-clause-within : goal.returns-clause-within
+returns-clause-within c = λ x goal fronts r h. Runs-within x h (omega arith)

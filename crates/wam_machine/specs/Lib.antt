@@ -1,0 +1,10 @@
+pub mod Facts
+pub mod Trees
+pub mod Machine
+pub mod List
+pub mod Runs
+pub mod Places
+pub mod Wanted
+pub mod NodeKey
+pub mod Scan
+pub mod View

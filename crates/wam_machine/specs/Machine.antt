@@ -1,0 +1,198 @@
+-- The abstract machine (docs/LANGUAGE.md, "Goals and steps"): its states, one move, a whole run, and the transcript of a goal
+-- over a journal. It takes no notice of how clauses are found: a call tries its candidates, one after another.
+use Rattle.std.specs.Prelude.{◌≡◌, ℕ, suc, ◌≤◌, Bool, true, false, ◌==◌, ◌&&◌, not, List, [], ◌∷◌, ◌++◌, length, take, nat_le, if◌then◌else◌, Option, Some, None, codes, filter_map}
+use Rattle.std.specs.List.{list_any}
+use Rattle.prolog_terms.specs.Tree.{Tree, atom}
+use Rattle.prolog_terms.specs.Indicators.{indicator_of}
+use Rattle.prolog_terms.specs.Faults.{fault_tree}
+use Rattle.prolog_terms.specs.declared.entry.Clause.{Clause}
+use Rattle.prolog_terms.specs.declared.entry.Indicator.{Indicator}
+use Rattle.prolog_terms.specs.declared.fault.Fault.TheVariants.{Existence}
+use Rattle.journal_base.specs.Keys.{GoalKeys, keys}
+use Rattle.journal_base.specs.Journal.{Journal, same_indicator, number_of, clause_named}
+use Rattle.journal_base.specs.Candidates.{candidates}
+use Rattle.wam_machine.specs.Trees.{same_tree}
+use Rattle.wam_machine.specs.declared.run.Event.{Event}
+use Rattle.wam_machine.specs.declared.run.Event.TheVariants.{Answer}
+use Rattle.wam_machine.specs.declared.run.RunEnd.{RunEnd}
+use Rattle.wam_machine.specs.declared.run.RunEnd.TheVariants.{Exhausted, Ball, Spent}
+
+-- ---- goals
+
+pub data Control : Type 0 where
+  True : Control
+  -- any other goal, by its name and arity
+  User : Indicator → Control
+
+abbrev pub is_true : Indicator → Bool
+is_true i = same_indicator (record { name = codes "true"; arity = 0 }) i
+
+abbrev pub control_named : Option Indicator → Option Control
+control_named None = None
+control_named (Some i) = Some (if is_true i then True else User i)
+
+-- what a goal is; none for a variable and a number
+abbrev pub control_of : Tree → Option Control
+control_of goal = control_named (indicator_of goal)
+
+-- the goals of a clause's body: none for `true` alone
+abbrev pub body_goals : Tree → List Tree
+body_goals body = if same_tree (atom (codes "true")) body then [] else body ∷ []
+
+-- ---- states
+
+pub data Alternative : Type 0 where
+  -- the clauses that are left of a call
+  Clauses : (goal : Tree) (rest : List Clause) → Alternative
+
+-- an alternative, with the goals that come after it
+pub record Choice : Type 0 where
+  pub what : Alternative
+  pub goals : List Tree
+
+pub data Mode : Type 0 where
+  Going : Mode
+  Failing : Mode
+  Raising : (ball : Tree) → Mode
+
+-- a call's moment: the front at which it looked, its procedure and its goal's keys
+pub record Look : Type 0 where
+  pub front : ℕ
+  pub procedure : ℕ
+  pub goal : GoalKeys
+
+pub record State : Type 0 where
+  pub mode : Mode
+  -- what is still to be done, first things first
+  pub goals : List Tree
+  -- the alternatives, the newest first
+  pub stack : List Choice
+  pub steps : ℕ
+  -- what happened so far, in order
+  pub events : List Event
+  pub looks : List Look
+  -- the front that was taken last, and those still to be taken
+  pub front : ℕ
+  pub fronts : List ℕ
+
+-- what a run stands on
+pub record Setting : Type 0 where
+  pub journal : Journal
+  pub start : ℕ
+  pub budget : ℕ
+
+-- what a run gives
+pub record Report : Type 0 where
+  pub events : List Event
+  pub looks : List Look
+  pub steps : ℕ
+  pub end : RunEnd
+
+-- a move goes on, ends the run, or can't be made with these fronts and this journal
+pub data Outcome : Type 0 where
+  Goes : State → Outcome
+  Ends : Report → Outcome
+  Unfit : Outcome
+
+-- ---- moves
+
+abbrev pub no_more : List ℕ → Bool
+no_more [] = true
+no_more (f ∷ fs) = false
+
+-- the run is over, and has taken each front
+abbrev pub over : State → RunEnd → Outcome
+over s end =
+    if no_more s.fronts then Ends (record { events = s.events; looks = s.looks; steps = s.steps; end = end }) else Unfit
+
+-- a step is done, where the budget leaves one
+abbrev pub stepping : Setting → State → (State → Outcome) → Outcome
+stepping x s then_ = if s.steps == x.budget then over s (Spent s.steps) else then_ (record s { steps = suc s.steps })
+
+-- the next front is taken: it is no lower than the last, and no higher than the journal is long
+abbrev pub taking : Setting → State → (Journal → State → Outcome) → Outcome
+taking x s with =
+    elim (s.fronts) [
+      [] ↦ Unfit
+    | f ∷ fs ↦ if nat_le s.front f && nat_le f (length x.journal) then with (take f x.journal) (record s { front = f; fronts = fs }) else Unfit ]
+
+abbrev pub fails : State → Outcome
+fails s = Goes (record s { mode = Failing })
+
+-- a clause is tried: its head and the goal have to be the same
+abbrev pub matching : Tree → Clause → State → Outcome
+matching goal c s = if same_tree c.head goal then Goes (record s { mode = Going; goals = body_goals c.body ++ s.goals }) else fails s
+
+-- an alternative is left exactly where a clause is left
+abbrev pub leaving : Tree → List Clause → State → State
+leaving goal [] s = s
+leaving goal (c ∷ cs) s = record s { stack = record { what = Clauses goal (c ∷ cs); goals = s.goals } ∷ s.stack }
+
+-- the first of these clauses is tried
+abbrev pub trying : Tree → List Clause → State → Outcome
+trying goal [] s = fails s
+trying goal (c ∷ cs) s = matching goal c (leaving goal cs s)
+
+abbrev pub candidate_clauses : Journal → ℕ → GoalKeys → List Clause
+candidate_clauses J p goal = filter_map (clause_named J) (candidates J p goal)
+
+abbrev pub looked : State → ℕ → Tree → State
+looked s p goal = record s { looks = s.looks ++ record { front = s.front; procedure = p; goal = keys goal } ∷ [] }
+
+abbrev pub called : Tree → Indicator → Journal → State → Option ℕ → Outcome
+called goal i seen s None = Goes (record s { mode = Raising (fault_tree (Existence i) i) })
+called goal i seen s (Some p) = trying goal (candidate_clauses seen p (keys goal)) (looked s p goal)
+
+abbrev pub calling : Setting → State → Tree → Indicator → Outcome
+calling x s goal i = taking x s (λ seen t. called goal i seen t (number_of seen i))
+
+abbrev pub performing : Setting → Tree → Control → State → Outcome
+performing x goal True s = Goes s
+performing x goal (User i) s = calling x s goal i
+
+abbrev pub goal_move : Setting → Tree → State → Option Control → Outcome
+goal_move x goal s None = Unfit
+goal_move x goal s (Some c) = stepping x s (performing x goal c)
+
+abbrev pub is_alternative : Alternative → Bool
+is_alternative (Clauses goal rest) = true
+
+-- no goal is left: an answer, open where an alternative is left, and on as after a failure; else the first goal
+abbrev pub going : Setting → State → List Tree → Outcome
+going x s [] = fails (record s { events = s.events ++ Answer (list_any (λ c. is_alternative c.what) s.stack) ∷ [] })
+going x s (goal ∷ rest) = goal_move x goal (record s { goals = rest }) (control_of goal)
+
+abbrev pub taken : Setting → State → Alternative → Outcome
+taken x s (Clauses goal rest) = stepping x s (trying goal rest)
+
+-- the newest alternative is taken, in the state of its moment
+abbrev pub failing : Setting → State → List Choice → Outcome
+failing x s [] = over s Exhausted
+failing x s (c ∷ below) = taken x (record s { mode = Going; goals = c.goals; stack = below }) c.what
+
+-- One move. A ball ends the run, since nothing catches it.
+abbrev pub move : Setting → State → Outcome
+move x s = elim (s.mode) [ Going ↦ going x s s.goals | Failing ↦ failing x s s.stack | Raising ball ↦ over s (Ball ball) ]
+
+-- ---- runs
+
+-- a run from a state, by one move after another
+pub data Runs (x : Setting) : State → Report → Type 0 where
+  ends : {s : State} {r : Report} → move x s ≡ Ends r → Runs x s r
+  goes : {s t : State} {r : Report} → move x s ≡ Goes t → Runs x t r → Runs x s r
+
+abbrev pub beginning : Setting → Tree → List ℕ → State
+beginning x goal fronts =
+    record { mode = Going; goals = goal ∷ []; stack = []; steps = 0; events = []; looks = []; front = x.start; fronts = fronts }
+
+-- the transcript of a goal over a journal, at these fronts
+abbrev pub Transcript : Setting → Tree → List ℕ → Report → Type 0
+Transcript x goal fronts report = Runs x (beginning x goal fronts) report
+
+-- a goal, a journal and fronts have one transcript at most
+abbrev pub TranscriptIsOne : Type 0
+TranscriptIsOne = (x : Setting) (goal : Tree) (fronts : List ℕ) (r q : Report) → Transcript x goal fronts r → Transcript x goal fronts q → r ≡ q
+
+-- no run takes more steps than its budget
+abbrev pub StepsAreWithin : Type 0
+StepsAreWithin = (x : Setting) (goal : Tree) (fronts : List ℕ) (r : Report) → Transcript x goal fronts r → r.steps ≤ x.budget

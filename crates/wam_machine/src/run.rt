@@ -1,0 +1,111 @@
+// What a run is asked, and what it gives.
+ghost use Rattle.std.specs.Prelude.{◌≡◌, [], ◌++◌, ◌∷◌, OnOk, OnErr};
+
+use journal_base::Tally;
+use prolog_terms::{Term, Want};
+use std::alloc::Global;
+use std::marker::Model;
+
+/// A goal of the command line.
+#[derive(Debug, Drop)]
+pub struct Goal {
+    pub term: Term,
+}
+
+/// What happens in a run.
+#[derive(Clone, Copy, Debug, PartialEq, Eq)]
+pub enum Event {
+    /// An answer; `left` says whether a choice point is left, so that more may follow.
+    Answer { left: bool },
+}
+
+/// How a run ends.
+#[derive(Debug, Drop)]
+pub enum RunEnd {
+    /// No alternative is left.
+    Exhausted,
+    /// A ball that nothing catches.
+    Ball(Term),
+    /// So many steps were done, which is the budget, and a further one was asked for.
+    Spent(u64),
+    /// Memory was wanted.
+    Want,
+}
+
+/// The events of a run, in order.
+#[derive(Debug, Drop)]
+pub struct Events {
+    events: Vec<Event>,
+}
+
+impl Model for Events {
+    ghost use Rattle.std.specs.Prelude.{List};
+    ghost use Rattle.wam_machine.specs.declared.run.Event.{Event};
+
+    ghost Value = { List Event };
+
+    ghost view = { λ e. e.events.items };
+}
+
+impl Events {
+    /// The events of this `Vec`.
+    pub fn of(events: Vec<Event>) -> Events
+        ensures { result ≡ events.items }
+    {
+        Events { events }
+    }
+
+    /// The events.
+    pub fn items(&self) -> &[Event]
+        ensures { result.now ≡ self.now }
+    {
+        self.events.as_slice()
+    }
+}
+
+/// The fronts of a run: the lengths of the journal at which it looked, in order.
+#[derive(Debug, Drop)]
+pub struct Fronts {
+    fronts: Vec<u64>,
+}
+
+impl Model for Fronts {
+    ghost use Rattle.std.specs.Prelude.{List, ℕ};
+
+    ghost Value = { List ℕ };
+
+    ghost view = { λ f. f.fronts.items };
+}
+
+impl Fronts {
+    /// The fronts of this `Vec`.
+    pub fn of(fronts: Vec<u64>) -> Fronts
+        ensures { result ≡ fronts.items }
+    {
+        Fronts { fronts }
+    }
+
+    /// The fronts.
+    pub fn items(&self) -> &[u64]
+        ensures { result.now ≡ self.now }
+    {
+        self.fronts.as_slice()
+    }
+}
+
+/// A run of a goal.
+#[derive(Debug, Drop)]
+pub struct Run {
+    /// The engine that ran it, counted from 1 in the order of the goals; 0 is the load's.
+    pub engine: u32,
+    /// What happened, in order.
+    pub transcript: Events,
+    /// The journal's length at each call of a procedure, in order.
+    pub fronts: Fronts,
+    /// The cost of its looks.
+    pub tally: Tally,
+    /// How many steps it took.
+    pub steps: u64,
+    /// How it ended.
+    pub end: RunEnd,
+}

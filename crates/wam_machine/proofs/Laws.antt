@@ -81,6 +81,7 @@ calling-keeps x s goal i = go s.fronts
     at : (f : ℕ) (fs : List ℕ) (b : Bool) → Keeps s.steps (if b then called goal i (take f x.journal) (record s { front = f; fronts = fs }) (number_of (take f x.journal) i) else Unfit)
     at f fs true = called-keeps goal i (take f x.journal) (record s { front = f; fronts = fs }) (number_of (take f x.journal) i)
     at f fs false = tt
+
     go : (fs : List ℕ) → Keeps s.steps (elim fs [ [] ↦ Unfit | f ∷ gs ↦ if nat_le s.front f && nat_le f (length x.journal) then called goal i (take f x.journal) (record s { front = f; fronts = gs }) (number_of (take f x.journal) i) else Unfit ])
     go [] = tt
     go (f ∷ gs) = at f gs (nat_le s.front f && nat_le f (length x.journal))

@@ -15,9 +15,10 @@ leads_on J budget goal m new l c = record {
   looks = l.looks ++ c.looked;
   counted = c.looks_are ∙ ap (λ n. n + length c.looked) l.counted ∙ sym (length-append l.looks c.looked);
   leads = λ fs r h.
-    subst (λ taken. Runs (over_all J budget) (beginning (over_all J budget) goal taken) r)
+      subst (λ taken. Runs (over_all J budget) (beginning (over_all J budget) goal taken) r)
       (sym (append_assoc m.fronts.items c.added fs) ∙ ap (λ taken. taken ++ fs) (sym c.fronts_are))
-      (l.leads (c.added ++ fs) r (goes (c.goes l.looks fs) h)) }
+      (l.leads (c.added ++ fs) r (goes (c.goes l.looks fs) h));
+}
 
 pub leads_to_end : (J : Journal) (budget engine : ℕ) (goal : Tree) (m new : Machine) (end : RunEnd) → IsLed J budget goal m → ComesToEnd (move (over_all J budget)) J m new end → IsHeld J budget new
     → IsRunOf engine J goal budget (record { engine = engine; transcript = new.events.items; fronts = new.fronts.items; tally = new.tally; steps = new.steps; end = end })
@@ -27,8 +28,10 @@ leads_to_end J budget engine goal m new end l c h = record {
   transcribed = λ _. record {
     looks = l.looks;
     transcript =
-      subst (λ taken. Runs (over_all J budget) (beginning (over_all J budget) goal taken) (record { events = new.events.items; looks = l.looks; steps = new.steps; end = end }))
+        subst (λ taken. Runs (over_all J budget) (beginning (over_all J budget) goal taken) (record { events = new.events.items; looks = l.looks; steps = new.steps; end = end }))
         (append-nil m.fronts.items ∙ sym c.fronts_are)
         (l.leads [] (record { events = new.events.items; looks = l.looks; steps = new.steps; end = end }) (ends (c.ends l.looks)));
     counted = ap (λ t. t.looks) c.tally_is ∙ l.counted;
-    scanned = h.scans ∙ ap (λ t. t.looks) c.tally_is ∙ l.counted } }
+    scanned = h.scans ∙ ap (λ t. t.looks) c.tally_is ∙ l.counted;
+  };
+}

@@ -27,7 +27,8 @@ kept-added J K numbers declared by p c h fact may is =
       legal = Legal-push J e h.legal may;
       facts = factual-push J e h.facts fact;
       numbers_are = λ i. h.numbers_are i ∙ ap (λ ds. Rattle.journal_base.specs.Journal.numbered_from 0 ds i) (sym (procedures-same J e refl));
-      counted = h.counted ∙ ap length (sym (procedures-same J e refl)) })
+      counted = h.counted ∙ ap length (sym (procedures-same J e refl));
+    })
 
 -- a procedure is declared
 pub kept-declared : (J K : Journal) (numbers more : Numbers) (declared : ℕ) (i : Indicator) → AreKept J numbers declared → number_of J i ≡ None
@@ -38,7 +39,8 @@ kept-declared J K numbers more declared i h absent updates is =
       legal = Legal-push J e h.legal (absent, refl);
       facts = factual-push J e h.facts tt;
       numbers_are = λ q. updates.0 q ∙ found (same_indicator i q) q refl;
-      counted = ap (λ n. n + 1) h.counted ∙ sym (ap length (procedures-push J e) ∙ length-append (procedures J) ((i, Static) ∷ [])) })
+      counted = ap (λ n. n + 1) h.counted ∙ sym (ap length (procedures-push J e) ∙ length-append (procedures J) ((i, Static) ∷ []));
+    })
   where
     found : (b : Bool) (q : Indicator) → same_indicator i q ≡ b → cond b (Some declared) (get same_indicator numbers q) ≡ number_of (J ++ record { by = 0; what = Declare i Static } ∷ []) q
     found true q s = rw (number_of-after J (record { by = 0; what = Declare i Static }) i Static q refl absent, s) (ap Some h.counted)

@@ -57,7 +57,6 @@ abbrev pub report : List Event → List Look → ℕ → RunEnd → Report
 report events looks steps end = record { events = events; looks = looks; steps = steps; end = end }
 
 module _ (J : Journal) (budget : ℕ) (goals : List Pending) (stack : List Choice) (steps : ℕ) (events : List Event) (looks : List Look) where
-
   -- ---- no goal is left
 
   pub answered : (fs : List ℕ) → move (over_all J budget) (state_from J Going [] stack steps events looks fs)
@@ -120,7 +119,7 @@ module _ (J : Journal) (budget : ℕ) (goals : List Pending) (stack : List Choic
   matched st m goal c b fs body same = ap (λ t. if t then Goes (record (state_from J m goals st steps events looks fs) { mode = spec.Going; goals = body_goals c.body ++ newest goal_of goals [] }) else fails (state_from J m goals st steps events looks fs)) (sym same) ∙ go b
     where
       go : (b : Bool) → ◌≡◌ {A = Outcome} (if b then Goes (record (state_from J m goals st steps events looks fs) { mode = spec.Going; goals = body_goals c.body ++ newest goal_of goals [] }) else fails (state_from J m goals st steps events looks fs))
-        (Goes (state_from J (settled b) goals st steps events looks fs))
+          (Goes (state_from J (settled b) goals st steps events looks fs))
       go true = rw body refl
       go false = refl
 
@@ -135,7 +134,7 @@ module _ (J : Journal) (budget : ℕ) (goals : List Pending) (stack : List Choic
       trying goal (c ∷ d ∷ ds) (state_from J m goals stack steps events looks fs) ≡ Goes (state_from J (settled b) goals (stack ++ h ∷ []) steps events looks fs)
   first_tried m goal c d ds h b fs body same is =
       ap (λ st. matching goal c (record (state_from J m goals stack steps events looks fs) { stack = st }))
-        (ap (λ k. k ∷ newest (choice_of J) stack []) (sym is) ∙ sym (newest-append (choice_of J) stack (h ∷ []) []))
+      (ap (λ k. k ∷ newest (choice_of J) stack []) (sym is) ∙ sym (newest-append (choice_of J) stack (h ∷ []) []))
       ∙ matched (stack ++ h ∷ []) m goal c b fs body same
 
   -- ---- after a failure

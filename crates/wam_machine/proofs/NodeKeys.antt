@@ -77,7 +77,6 @@ head_here : (t : Tree) (ns : List Node) → ns ≡ nodes t → tree_at ns 0 ≡ 
 unfolding tree_at
 head_here t ns e = ap (λ l. first_tree (forest l)) (e ∙ sym (append-nil (nodes t))) ∙ ap first_tree (forest-nodes t [])
 
-
 agree_any : (b : Option Key) → keys_agree None b ≡ true
 agree_any None = refl
 agree_any (Some a) = refl
@@ -141,4 +140,4 @@ pub tested : (head goal : Tree) (hs gs : List Node) (places : List ℕ) (p k : �
 tested head goal hs gs places p k b he ge h are s is =
     one_key head (keys goal) p (place_key (nodes goal) k) h (goal_key goal places p k are s)
     ∙ ap (λ c. c && rest_agrees head (keys goal) (p + 1))
-        (sym (is ∙ ap (λ o. keys_agree (option_and_then key (option_and_then (λ t. subterm_at t p) o)) (place_key gs k)) (head_here head hs he) ∙ ap (λ ns. keys_agree (key_at head p) (place_key ns k)) ge))
+    (sym (is ∙ ap (λ o. keys_agree (option_and_then key (option_and_then (λ t. subterm_at t p) o)) (place_key gs k)) (head_here head hs he) ∙ ap (λ ns. keys_agree (key_at head p) (place_key ns k)) ge))

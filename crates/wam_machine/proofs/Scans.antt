@@ -54,6 +54,7 @@ nothing_in_front J p k h = go (slice_get J k) refl
     at (Add Front q c) f = absurd f
     at (Add Back q c) f = refl
     at (Erase n) f = absurd f
+
     go : (o : Option Entry) → slice_get J k ≡ o → adds_at J Front p k ≡ false
     go None s = rw s refl
     go (Some e) s = rw s (at e.what (factual_at J k e h s))
@@ -95,4 +96,4 @@ scan-whole J p g h =
     ap (λ n. filter (is_candidate J p g) (numbers_from 0 n)) e
     ∙ filter-filter (adds_at J Back p) (λ k. head_agrees g (clause_named J k)) U
     ∙ ap (filter (λ k. head_agrees g (clause_named J k)))
-        (sym (filter-all (λ k. not (is_erased J k)) (additions J Back p) kept) ∙ ap (λ l. filter (λ k. not (is_erased J k)) (reverse l ++ additions J Back p)) (sym front))
+    (sym (filter-all (λ k. not (is_erased J k)) (additions J Back p) kept) ∙ ap (λ l. filter (λ k. not (is_erased J k)) (reverse l ++ additions J Back p)) (sym front))

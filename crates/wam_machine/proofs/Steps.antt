@@ -36,7 +36,8 @@ performs_true J budget m g i h t d = record {
   fronts_are = sym (append-nil m.fronts.items);
   looks_are = omega arith;
   goes = λ looks fs. step_true J budget m.goals.items m.stack.items m.steps m.events.items looks m.mode g fs (control_true g i h t) d
-    ∙ ap (λ l. Goes (state_from J m.mode m.goals.items m.stack.items (m.steps + 1) m.events.items l fs)) (sym (append-nil looks)) }
+      ∙ ap (λ l. Goes (state_from J m.mode m.goals.items m.stack.items (m.steps + 1) m.events.items l fs)) (sym (append-nil looks));
+}
 
 -- a call is done
 pub performs_call : (J : Journal) (budget : ℕ) (m new : Machine) (g : Tree) (i : Indicator) → indicator_of g ≡ Some i → is_true i ≡ false → m.steps ≢ budget
@@ -46,7 +47,8 @@ performs_call J budget m new g i h t d c = record {
   looked = c.looked;
   fronts_are = c.fronts_are;
   looks_are = c.looks_are;
-  goes = λ looks fs. step_user J budget m.goals.items m.stack.items m.steps m.events.items looks m.mode g i (c.added ++ fs) (control_user g i h t) d ∙ c.goes looks fs }
+  goes = λ looks fs. step_user J budget m.goals.items m.stack.items m.steps m.events.items looks m.mode g i (c.added ++ fs) (control_user g i h t) d ∙ c.goes looks fs;
+}
 
 -- ---- from the goals to one goal
 
@@ -64,7 +66,8 @@ goes_goal J budget m rest new p going goals mode stack steps events fronts tally
   looked = c.looked;
   fronts_are = c.fronts_are ∙ ap (λ l. l ++ c.added) fronts;
   looks_are = c.looks_are ∙ ap (λ t. t.looks + length c.looked) tally;
-  goes = λ looks fs. next_is J budget m rest p going goals mode stack steps events looks (c.added ++ fs) ∙ c.goes looks fs }
+  goes = λ looks fs. next_is J budget m rest p going goals mode stack steps events looks (c.added ++ fs) ∙ c.goes looks fs;
+}
 
 ends_goal : (J : Journal) (budget : ℕ) (m rest new : Machine) (p : Pending) (end : RunEnd) → m.mode ≡ Going → m.goals.items ≡ rest.goals.items ++ p ∷ []
     → rest.mode ≡ m.mode → rest.stack.items ≡ m.stack.items → rest.steps ≡ m.steps → rest.events.items ≡ m.events.items → rest.fronts.items ≡ m.fronts.items → rest.tally ≡ m.tally
@@ -72,7 +75,8 @@ ends_goal : (J : Journal) (budget : ℕ) (m rest new : Machine) (p : Pending) (e
 ends_goal J budget m rest new p end going goals mode stack steps events fronts tally c = record {
   fronts_are = c.fronts_are ∙ fronts;
   tally_is = c.tally_is ∙ tally;
-  ends = λ looks. next_is J budget m rest p going goals mode stack steps events looks [] ∙ c.ends looks }
+  ends = λ looks. next_is J budget m rest p going goals mode stack steps events looks [] ∙ c.ends looks;
+}
 
 -- what the first goal does is what the move does
 pub does_goal : (J : Journal) (budget : ℕ) (m rest new : Machine) (p : Pending) (o : Option RunEnd) → m.mode ≡ Going → m.goals.items ≡ rest.goals.items ++ p ∷ []
@@ -92,10 +96,12 @@ gives_answer J budget m new left going goals is mode none stack steps events fro
   looked = [];
   fronts_are = fronts ∙ sym (append-nil m.fronts.items);
   looks_are = ap (λ t. t.looks) tally ∙ plus_none m.tally.looks;
-  goes = λ looks fs. said looks fs ∙ ap (λ l. Goes (state_of J new l fs)) (sym (append-nil looks)) }
+  goes = λ looks fs. said looks fs ∙ ap (λ l. Goes (state_of J new l fs)) (sym (append-nil looks));
+}
   where
     plus_none : (n : ℕ) → n ≡ n + 0
     plus_none n = omega arith
+
     said : (looks : List Look) (fs : List ℕ) → move (over_all J budget) (state_of J m looks fs) ≡ Goes (state_of J new looks fs)
     said looks fs = rw (going, goals, mode, none, stack, steps, events, is) (answered J budget [] m.stack.items m.steps m.events.items looks fs)
 
@@ -122,13 +128,16 @@ goes_back J budget m below new h failing d stack mode goals steps events fronts 
   looked = [];
   fronts_are = fronts ∙ sym (append-nil m.fronts.items);
   looks_are = ap (λ t. t.looks) tally ∙ plus_none m.tally.looks;
-  goes = λ looks fs. back looks fs ∙ any_mode looks fs ∙ tried looks fs ∙ ap (λ l. Goes (state_of J new l fs)) (sym (append-nil looks)) }
+  goes = λ looks fs. back looks fs ∙ any_mode looks fs ∙ tried looks fs ∙ ap (λ l. Goes (state_of J new l fs)) (sym (append-nil looks));
+}
   where
     plus_none : (n : ℕ) → n ≡ n + 0
     plus_none n = omega arith
+
     back : (looks : List Look) (fs : List ℕ) → move (over_all J budget) (state_of J m looks fs)
         ≡ trying h.call.goal.now (clauses_at J h.call.procedure (keys h.call.goal.now) (Some h.next)) (state_from J Going h.goals.items below.stack.items (m.steps + 1) m.events.items looks fs)
     back looks fs = rw (failing, stack) (retried J budget m.goals.items below.stack.items m.steps m.events.items looks h fs d)
+
     any_mode : (looks : List Look) (fs : List ℕ) → trying h.call.goal.now (clauses_at J h.call.procedure (keys h.call.goal.now) (Some h.next)) (state_from J Going h.goals.items below.stack.items (m.steps + 1) m.events.items looks fs)
         ≡ trying h.call.goal.now (clauses_at J h.call.procedure (keys h.call.goal.now) (Some h.next)) (state_of J below looks fs)
     any_mode looks fs = rw (mode, goals, steps, events) refl
@@ -154,7 +163,8 @@ spent_back J budget m failing e some =
     record {
       fronts_are = refl;
       tally_is = refl;
-      ends = λ looks. rw (failing, l.whole) (retry_spent J budget m.goals.items l.before m.steps m.events.items looks l.last e) }
+      ends = λ looks. rw (failing, l.whole) (retry_spent J budget m.goals.items l.before m.steps m.events.items looks l.last e);
+    }
 
 pub no_items : {X : Type 0} (xs : List X) → length xs ≡ 0 → xs ≡ []
 no_items [] h = refl

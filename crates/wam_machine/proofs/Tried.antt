@@ -40,11 +40,13 @@ candidate_clause J p g k facts h = go (slice_get J k) refl
   where
     headed : head_agrees g (clause_named J k) ≡ true
     headed = (and_parts (adds_at J Back p k) (head_agrees g (clause_named J k)) h).1
+
     at : (e : Entry) → slice_get J k ≡ Some e → (w : What) → e.what ≡ w → IsFactual w → IsAdded J k
     at e s (Declare i d) v f = let n : clause_named J k ≡ None = ap (option_and_then (λ x. added x.what)) s ∙ ap added v in let b : false ≡ true = sym (ap (head_agrees g) n) ∙ headed in absurd cc
     at e s (Add Front q c) v f = absurd f
     at e s (Add Back q c) v f = record { clause = c; named = ap (option_and_then (λ x. added x.what)) s ∙ ap added v; fact = f }
     at e s (Erase n) v f = absurd f
+
     go : (o : Option Entry) → slice_get J k ≡ o → IsAdded J k
     go None s = let n : clause_named J k ≡ None = ap (option_and_then (λ x. added x.what)) s in let b : false ≡ true = sym (ap (head_agrees g) n) ∙ headed in absurd cc
     go (Some e) s = at e s e.what refl (factual_at J k e facts s)
@@ -61,7 +63,6 @@ same_left J p g n k f = ap (filter_map (clause_named J)) (f.left ∙ sym (scan_f
 
 module _ (J : Journal) (p : ℕ) (goal : Tree) (at : ℕ) (facts : AreFactual J) (first : Finds J p (keys goal) at at) (r : Bool)
     (told : (c : Clause) → clause_named J at ≡ Some c → r ≡ same_tree c.head goal) (m : Machine) where
-
   -- no clause follows
   pub tried_last : (looks : List Look) (fs : List ℕ) → scan J p (keys goal) (at + 1) ≡ []
       → trying goal (clauses_from J p (keys goal) at) (state_of J m looks fs) ≡ Goes (state_of J (record m { mode = settled r }) looks fs)
@@ -78,7 +79,7 @@ module _ (J : Journal) (p : ℕ) (goal : Tree) (at : ℕ) (facts : AreFactual J)
       let b = candidate_clause J p (keys goal) next facts f.found in
       let rest = clauses_cons J p (keys goal) (at + 1) next b.clause f.left b.named in
       let choice_is : choice_of J l.choice ≡ record { what = Clauses goal (b.clause ∷ clauses_from J p (keys goal) (next + 1)); goals = newest goal_of m.goals.items [] } =
-        rw (l.goal_is, l.procedure_is, l.next_is, l.goals_are) (ap (λ cs. record { what = Clauses goal cs; goals = newest goal_of m.goals.items [] }) (sym (same_left J p (keys goal) (at + 1) next f) ∙ rest)) in
+      rw (l.goal_is, l.procedure_is, l.next_is, l.goals_are) (ap (λ cs. record { what = Clauses goal cs; goals = newest goal_of m.goals.items [] }) (sym (same_left J p (keys goal) (at + 1) next f) ∙ rest)) in
       ap (λ cs. trying goal cs (state_of J m looks fs)) (clauses_cons J p (keys goal) at at a.clause first.left a.named ∙ ap (λ l. a.clause ∷ l) rest)
       ∙ first_tried J 0 m.goals.items m.stack.items m.steps m.events.items looks m.mode goal a.clause b.clause (clauses_from J p (keys goal) (next + 1)) l.choice r fs a.fact.body (told a.clause a.named) choice_is
       ∙ ap Goes (sym (left_state looks fs))
@@ -115,7 +116,7 @@ pub looks_on : (J : Journal) (budget : ℕ) (m new : Machine) (goal g : Tree) (i
 looks_on J budget m new goal g i p q o facts found same number h tried looks fs =
     call_found J budget m.goals.items m.stack.items m.steps m.events.items looks m.mode goal i p fs found
     ∙ ap (λ cs. trying goal cs (state_of J m (looks ++ look_at J p goal ∷ []) fs))
-        (ap (λ (t : Tree). candidate_clauses J p (keys t)) (sym same) ∙ ap (λ (n : ℕ). candidate_clauses J n (keys g)) (sym number) ∙ clauses_first J q (keys g) o facts h)
+    (ap (λ (t : Tree). candidate_clauses J p (keys t)) (sym same) ∙ ap (λ (n : ℕ). candidate_clauses J n (keys g)) (sym number) ∙ clauses_first J q (keys g) o facts h)
     ∙ ap (λ (t : Tree). trying t (clauses_at J q (keys g) o) (state_of J m (looks ++ look_at J p goal ∷ []) fs)) (sym same)
     ∙ tried (looks ++ look_at J p goal ∷ []) fs
 

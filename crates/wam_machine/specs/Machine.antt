@@ -113,8 +113,9 @@ stepping x s then_ = if s.steps == x.budget then over s (Spent s.steps) else the
 abbrev pub taking : Setting → State → (Journal → State → Outcome) → Outcome
 taking x s with =
     elim (s.fronts) [
-      [] ↦ Unfit
-    | f ∷ fs ↦ if nat_le s.front f && nat_le f (length x.journal) then with (take f x.journal) (record s { front = f; fronts = fs }) else Unfit ]
+      | [] ↦ Unfit
+      | f ∷ fs ↦ if nat_le s.front f && nat_le f (length x.journal) then with (take f x.journal) (record s { front = f; fronts = fs }) else Unfit
+    ]
 
 abbrev pub fails : State → Outcome
 fails s = Goes (record s { mode = Failing })

@@ -5,5 +5,4 @@ ghost use Rattle.wam_machine.specs.Machine.{TranscriptIsOne, StepsAreWithin};
 pub fn transcript()
     ensures one { TranscriptIsOne }
     ensures within { StepsAreWithin }
-{
-}
+{}

@@ -10,7 +10,7 @@ mod run;
 mod seek;
 mod walk;
 
-pub use list::EntryList;
 pub use engine::Engine;
 pub use law::transcript;
+pub use list::EntryList;
 pub use run::{Event, Events, Fronts, Goal, Run, RunEnd};

@@ -16,7 +16,9 @@ use crate::list::EntryList;
 use crate::run::{Event, Events, Fronts, Run, RunEnd};
 use crate::seek::{Call, call_of, seek};
 use journal_base::{Gate, Tally};
-use prolog_terms::{Clause, Entry, Fault, Indicator, Term, Want, What, copy_indicator, fault_term, term_indicator};
+use prolog_terms::{
+    Clause, Entry, Fault, Indicator, Term, Want, What, copy_indicator, fault_term, term_indicator,
+};
 use std::alloc::Global;
 use std::mem;
 use std::sync::Wait;
@@ -126,7 +128,12 @@ impl<'a> Machine<'a> {
     }
 
     /// One move. It answers the run's end, where it comes to it.
-    pub(crate) fn advance<R: Wait, G: Gate>(&mut self, host: &Host<'a>, rt: &R, gate: &G) -> Result<Option<RunEnd>, Want>
+    pub(crate) fn advance<R: Wait, G: Gate>(
+        &mut self,
+        host: &Host<'a>,
+        rt: &R,
+        gate: &G,
+    ) -> Result<Option<RunEnd>, Want>
         requires held { IsHeld host.now.list.now.journal host.now.budget self.old }
         requires budget { host.now.budget ≤ 10 ^ 11 }
         ensures moves { IfOk result (λ o. Moves host.now.list.now.journal host.now.budget self.old self.new o) }
@@ -176,7 +183,12 @@ impl<'a> Machine<'a> {
         }
     }
 
-    fn go_on<R: Wait, G: Gate>(&mut self, host: &Host<'a>, rt: &R, gate: &G) -> Result<Option<RunEnd>, Want>
+    fn go_on<R: Wait, G: Gate>(
+        &mut self,
+        host: &Host<'a>,
+        rt: &R,
+        gate: &G,
+    ) -> Result<Option<RunEnd>, Want>
         requires going { self.old.mode ≡ Mode.Going }
         requires held { IsHeld host.now.list.now.journal host.now.budget self.old }
         requires budget { host.now.budget ≤ 10 ^ 11 }
@@ -197,7 +209,13 @@ impl<'a> Machine<'a> {
         }
     }
 
-    fn perform<R: Wait, G: Gate>(&mut self, host: &Host<'a>, pending: Pending<'a>, rt: &R, gate: &G) -> Result<Option<RunEnd>, Want>
+    fn perform<R: Wait, G: Gate>(
+        &mut self,
+        host: &Host<'a>,
+        pending: Pending<'a>,
+        rt: &R,
+        gate: &G,
+    ) -> Result<Option<RunEnd>, Want>
         requires held { IsHeld host.now.list.now.journal host.now.budget self.old }
         requires budget { host.now.budget ≤ 10 ^ 11 }
         ensures performs { IfOk result (λ o. Does (performs_goal host.now.list.now.journal host.now.budget pending.entry.goal.now) host.now.list.now.journal self.old self.new o) }
@@ -215,7 +233,14 @@ impl<'a> Machine<'a> {
         Ok(None)
     }
 
-    fn call<R: Wait, G: Gate>(&mut self, host: &Host<'a>, goal: &'a Term, indicator: &Indicator, rt: &R, gate: &G) -> Result<(), Want>
+    fn call<R: Wait, G: Gate>(
+        &mut self,
+        host: &Host<'a>,
+        goal: &'a Term,
+        indicator: &Indicator,
+        rt: &R,
+        gate: &G,
+    ) -> Result<(), Want>
         requires room { self.old.tally.looks < self.old.steps }
         requires held { IsHeld host.now.list.now.journal host.now.budget self.old }
         requires budget { host.now.budget ≤ 10 ^ 11 }
@@ -250,7 +275,13 @@ impl<'a> Machine<'a> {
     }
 
     /// The call of a declared procedure: its first candidate is tried.
-    fn look(&mut self, host: &Host<'a>, goal: &'a Term, indicator: &Indicator, procedure: u32) -> Result<(), Want>
+    fn look(
+        &mut self,
+        host: &Host<'a>,
+        goal: &'a Term,
+        indicator: &Indicator,
+        procedure: u32,
+    ) -> Result<(), Want>
         requires found { number_of host.now.list.now.journal indicator.now ≡ Some procedure }
         requires room { self.old.tally.looks < self.old.steps }
         requires held { IsHeld host.now.list.now.journal host.now.budget self.old }
@@ -269,7 +300,12 @@ impl<'a> Machine<'a> {
     }
 
     /// Tries the first clause of a call, and leaves a choice exactly where another one follows.
-    fn try_clauses(&mut self, host: &Host<'a>, call: Call<'a>, first: Option<usize>) -> Result<(), Want>
+    fn try_clauses(
+        &mut self,
+        host: &Host<'a>,
+        call: Call<'a>,
+        first: Option<usize>,
+    ) -> Result<(), Want>
         requires first { IsFirst host.now.list.now.journal call.procedure (keys call.goal.now) first }
         requires choices { All (IsNext host.now.list.now.journal) self.old.stack.items }
         ensures tried { OnOk result ((looks : List Look) (fronts : List ℕ) →

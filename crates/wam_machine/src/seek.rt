@@ -36,7 +36,9 @@ fn is_candidate(entries: &[Entry], k: usize, call: &Call) -> bool
     match &entries[k].what {
         What::Declare(_, _) => false,
         What::Add(end, procedure, clause) => {
-            *end == End::Back && *procedure == call.procedure && could_match(&clause.head, call.goal, &call.places)
+            *end == End::Back
+                && *procedure == call.procedure
+                && could_match(&clause.head, call.goal, &call.places)
         }
         What::Erase(_) => false,
     }

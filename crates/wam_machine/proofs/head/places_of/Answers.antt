@@ -12,7 +12,7 @@ loop-p-preserved c =
     let ns : List Node = c.nodes-nodes.result.now in
     let same : ns ≡ nodes c.args.goal.now = c.nodes-nodes.ensures.nodes in
     let before : map (place_key ns) c.loop-p.places.items ≡ map (key_at c.args.goal.now) (numbers_from 0 c.loop-p.p) =
-        ap (λ (l : List Node). map (place_key l) c.loop-p.places.items) same ∙ c.loop-p.invariant in
+    ap (λ (l : List Node). map (place_key l) c.loop-p.places.items) same ∙ c.loop-p.invariant in
     let after = one_place c.args.goal.now ns c.loop-p.places.items c.loop-p.p c.position_at.result same c.nodes-nodes.ensures.prefix c.position_at.ensures.place before in
     ap (λ (l : List ℕ). map (place_key (nodes c.args.goal.now)) l) c.in_ok-push.ensures.items
     ∙ ap (λ (l : List Node). map (place_key l) (c.loop-p.places.items ++ c.position_at.result ∷ [])) (sym same) ∙ after

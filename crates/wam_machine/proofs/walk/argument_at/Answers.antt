@@ -16,11 +16,12 @@ returns-then-i-wanted-clause-place c =
 pub loop-turn-preserved : goal.loop-turn-preserved
 loop-turn-preserved c = record {
   same = one_more c.loop-turn._turn _ _ _ c.loop-turn.invariant.same c.past_term-k.ensures.place;
-  within = c.past_term-k.ensures.within }
+  within = c.past_term-k.ensures.within;
+}
 
 pub returns-clause-place : goal.returns-clause-place
 returns-clause-place c =
     let all : c.loop-turn._turn ≡ c.args.i = omega arith in
     let few : c.args.i < wanted_of c.node_at.result.now = omega arith in
     argument-some c.args.nodes.now c.args.at c.args.i c.loop-turn.k _ c.node_at.ensures few
-      (c.loop-turn.invariant.same ∙ ap (λ n. past n (trees_at c.args.nodes.now (c.args.at + 1))) all)
+    (c.loop-turn.invariant.same ∙ ap (λ n. past n (trees_at c.args.nodes.now (c.args.at + 1))) all)

@@ -6,5 +6,5 @@ use Rattle.wam_machine.proofs.walk.argument_at.Given as goal
 abbrev pub invariant-loop-turn : goal.invariant-loop-turn
 invariant-loop-turn l = record {
   same : trees_at l.nodes l.k ≡ past l._turn (trees_at l.nodes (l.at + 1));
-  within : l.k ≤ length l.nodes
+  within : l.k ≤ length l.nodes;
 }

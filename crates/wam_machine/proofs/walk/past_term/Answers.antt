@@ -12,7 +12,8 @@ loop-k-preserved c =
     let small : c.from.result < 2 ^ 32 = omega arith in
     record {
       same = rw is (walk_step c.args.nodes.now c.loop-k.k c.loop-k.left _ c.node_at.ensures low) ∙ c.loop-k.invariant.same;
-      few = omega arith }
+      few = omega arith;
+    }
 
 pub returns-clause-place : goal.returns-clause-place
 returns-clause-place c =

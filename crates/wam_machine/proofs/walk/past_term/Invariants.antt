@@ -6,5 +6,5 @@ use Rattle.wam_machine.proofs.walk.past_term.Given as goal
 abbrev pub invariant-loop-k : goal.invariant-loop-k
 invariant-loop-k l = record {
   same : past l.left (trees_at l.nodes l.k) ≡ past 1 (trees_at l.nodes l.at);
-  few : l.left ≤ 2 ^ 32 * l.k + 1
+  few : l.left ≤ 2 ^ 32 * l.k + 1;
 }

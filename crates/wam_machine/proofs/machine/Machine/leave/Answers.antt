@@ -16,4 +16,6 @@ returns c = record {
     steps = ap (λ (m : Machine). m.steps) c.settle.ensures;
     events = ap (λ (m : Machine). m.events.items) c.settle.ensures;
     fronts = ap (λ (m : Machine). m.fronts.items) c.settle.ensures;
-    tally = ap (λ (m : Machine). m.tally) c.settle.ensures } }
+    tally = ap (λ (m : Machine). m.tally) c.settle.ensures;
+  };
+}

@@ -12,9 +12,9 @@ returns-clause-calls c = record {
   fronts_are = c.in_ok-push.ensures.items ∙ ap (λ (n : ℕ). c.args.self.now.fronts.items ++ n ∷ []) c.front.ensures;
   looks_are = omega arith;
   goes = λ looks fs.
-    call_missing c.args.host.now.list.now.journal c.args.host.now.budget c.args.self.now.goals.items c.args.self.now.stack.items c.args.self.now.steps c.args.self.now.events.items looks
+      call_missing c.args.host.now.list.now.journal c.args.host.now.budget c.args.self.now.goals.items c.args.self.now.stack.items c.args.self.now.steps c.args.self.now.events.items looks
       c.args.self.now.mode c.args.goal.now _ c.args.indicator.now fs c.requires.absent c.in_ok-ball.ensures
-    ∙ ap (λ (l : List Look). Goes (state_from c.args.host.now.list.now.journal (Raising c.in_ok-ball.ball) c.args.self.now.goals.items c.args.self.now.stack.items c.args.self.now.steps c.args.self.now.events.items l fs)) (sym (append-nil looks));
+      ∙ ap (λ (l : List Look). Goes (state_from c.args.host.now.list.now.journal (Raising c.in_ok-ball.ball) c.args.self.now.goals.items c.args.self.now.stack.items c.args.self.now.steps c.args.self.now.events.items l fs)) (sym (append-nil looks));
 }
 
 pub returns-clause-held : goal.returns-clause-held

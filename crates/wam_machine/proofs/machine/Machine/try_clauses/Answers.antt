@@ -21,11 +21,11 @@ returns-in-None-seek-clause-tried c =
     let first : Finds J p g c.in-Some.at c.in-Some.at = subst (IsFirst J p g) c.in-Some.is c.requires.first in
     let none : scan J p g (c.in-Some.at + 1) ≡ [] = subst (λ (K : Journal). scan K p g (c.in-Some.at + 1) ≡ []) c.entries-2.ensures.entries c.in-None-seek.ensures in
     λ looks fs.
-      ap (λ (o : Option ℕ). trying c.args.call.goal.now (clauses_at J p g o) (state_of J c.args.self.now looks fs)) c.in-Some.is
-      ∙ tried_last J p c.args.call.goal.now c.in-Some.at c.entries.ensures.facts first c.is_head-same.result
-          (λ d named. c.is_head-same.ensures d (subst (λ (K : Journal). clause_named K c.in-Some.at ≡ Some d) (sym c.entries.ensures.entries) named))
-          c.args.self.now looks fs none
-      ∙ ap (λ (m : Machine). Goes (state_of J m looks fs)) (sym c.settle.ensures)
+    ap (λ (o : Option ℕ). trying c.args.call.goal.now (clauses_at J p g o) (state_of J c.args.self.now looks fs)) c.in-Some.is
+    ∙ tried_last J p c.args.call.goal.now c.in-Some.at c.entries.ensures.facts first c.is_head-same.result
+    (λ d named. c.is_head-same.ensures d (subst (λ (K : Journal). clause_named K c.in-Some.at ≡ Some d) (sym c.entries.ensures.entries) named))
+    c.args.self.now looks fs none
+    ∙ ap (λ (m : Machine). Goes (state_of J m looks fs)) (sym c.settle.ensures)
 
 pub returns-in_ok-leave-in-Some-seek-clause-tried : goal.returns-in_ok-leave-in-Some-seek-clause-tried
 returns-in_ok-leave-in-Some-seek-clause-tried c = λ looks fs.
@@ -36,8 +36,8 @@ returns-in_ok-leave-in-Some-seek-clause-tried c = λ looks fs.
     let next : Finds J p g (c.in-Some.at + 1) c.in-Some-seek.next = subst (λ (K : Journal). Finds K p g (c.in-Some.at + 1) c.in-Some-seek.next) c.entries-2.ensures.entries c.in-Some-seek.ensures in
     ap (λ (o : Option ℕ). trying c.args.call.goal.now (clauses_at J p g o) (state_of J c.args.self.now looks fs)) c.in-Some.is
     ∙ tried_first J p c.args.call.goal.now c.in-Some.at c.entries.ensures.facts first c.is_head-same.result
-        (λ d named. c.is_head-same.ensures d (subst (λ (K : Journal). clause_named K c.in-Some.at ≡ Some d) (sym c.entries.ensures.entries) named))
-        c.args.self.now c.leave.new.self c.in-Some-seek.next looks fs next c.in_ok-leave-in-Some-seek.ensures
+    (λ d named. c.is_head-same.ensures d (subst (λ (K : Journal). clause_named K c.in-Some.at ≡ Some d) (sym c.entries.ensures.entries) named))
+    c.args.self.now c.leave.new.self c.in-Some-seek.next looks fs next c.in_ok-leave-in-Some-seek.ensures
 
 pub returns-in_ok-leave-in-Some-seek-clause-choices : goal.returns-in_ok-leave-in-Some-seek-clause-choices
 returns-in_ok-leave-in-Some-seek-clause-choices c =

@@ -1,0 +1,17 @@
+pub mod FaultCounts
+pub mod Sources
+pub mod Sinks
+pub mod WholeText
+pub mod MemoryMoves
+pub mod SteadyMoves
+pub mod StandardMoves
+pub mod Reserved
+pub mod Load
+pub mod Words
+pub mod Runs
+pub mod Errors
+pub mod Canonical
+pub mod Output
+pub mod Headline
+pub mod Prepared
+pub mod Ends

@@ -1,0 +1,53 @@
+-- The text of the runs.
+use Rattle.std.specs.Prelude.{ℕ, ◌+◌, List, [], ◌∷◌, ◌++◌, Bool, true, false, not, codes, if◌then◌else◌}
+use Rattle.std.specs.List.{flat_map}
+use Rattle.std.specs.Fmt.{decimal}
+use Rattle.wam_machine.specs.declared.run.Event.{Event}
+use Rattle.wam_machine.specs.declared.run.Event.TheVariants.{Answer}
+use Rattle.wam_machine.specs.declared.run.Run.{Run}
+use Rattle.wam_machine.specs.declared.run.RunEnd.{RunEnd}
+use Rattle.wam_machine.specs.declared.run.RunEnd.TheVariants.{Exhausted, Ball, Spent, Want}
+use Rattle.prolog_main.specs.Canonical.{canonical}
+
+-- the end of a line
+abbrev pub newline : List ℕ
+newline = 10 ∷ []
+
+-- the text of an event: an answer is a line, which says whether a choice point is left
+abbrev pub event_text : Event → List ℕ
+event_text (Answer true) = codes "true ;" ++ newline
+event_text (Answer false) = codes "true." ++ newline
+
+-- the text of each event in order
+unfoldable pub events_text : List Event → List ℕ
+events_text events = flat_map event_text events
+
+-- whether it is an answer that leaves no choice point
+abbrev pub closes : Event → Bool
+closes (Answer left) = not left
+
+-- whether the last event is such an answer
+abbrev pub is_closed : List Event → Bool
+is_closed [] = false
+is_closed (event ∷ []) = closes event
+is_closed (event ∷ events) = is_closed events
+
+-- the text of the end, behind these events
+abbrev pub end_text : List Event → RunEnd → List ℕ
+end_text events Exhausted = if is_closed events then [] else codes "false." ++ newline
+end_text events (Ball term) = codes "error: " ++ canonical term ++ codes "." ++ newline
+end_text events (Spent n) = codes "stopped after " ++ decimal n ++ codes " steps." ++ newline
+end_text events Want = []
+
+-- the text of the run of the goal with this number
+unfoldable pub run_text : ℕ → Run → List ℕ
+run_text i run = codes "% goal " ++ decimal i ++ newline ++ events_text run.transcript ++ end_text run.transcript run.end
+
+-- the texts of the runs of the goals from this number on
+unfoldable pub runs_text : ℕ → List Run → List ℕ
+runs_text i [] = []
+runs_text i (run ∷ runs) = run_text i run ++ runs_text (i + 1) runs
+
+-- the text of all runs, whose goals are counted from 1
+unfoldable pub output_of : List Run → List ℕ
+output_of runs = runs_text 1 runs

@@ -1,0 +1,53 @@
+-- The runs of a command, and the status that they give.
+use Rattle.std.specs.Prelude.{◌≡◌, ◌≢◌, ℕ, Bool, true, false, IsTrue, List, [], ◌∷◌, Option, Some, None, if◌then◌else◌}
+use Rattle.std.specs.List.{list_any}
+use Rattle.prolog_terms.specs.Tree.{Tree}
+use Rattle.journal_base.specs.Journal.{Journal}
+use Rattle.wam_machine.specs.Runs.{IsRunOf}
+use Rattle.wam_machine.specs.declared.run.Run.{Run}
+use Rattle.wam_machine.specs.declared.run.RunEnd.{RunEnd}
+use Rattle.wam_machine.specs.declared.run.RunEnd.TheVariants.{Exhausted, Ball, Spent, Want}
+
+-- the most steps of a run
+abbrev pub step_budget : ℕ
+step_budget = 10_000_000
+
+-- these are one run, of the goal over the journal by engine 1, for which memory sufficed
+pub record IsOneRun (goal : Tree) (J : Journal) (runs : List Run) : Type 0 where
+  pub run : Run
+  pub only : runs ≡ run ∷ []
+  pub is_run : IsRunOf 1 J goal step_budget run
+  pub ended : run.end ≢ Want
+
+-- the runs of a command over a journal: that of its goal, if it has one
+abbrev pub AreRuns : Option Tree → Journal → List Run → Type 0
+AreRuns None J runs = runs ≡ []
+AreRuns (Some goal) J runs = IsOneRun goal J runs
+
+abbrev pub is_ball : RunEnd → Bool
+is_ball Exhausted = false
+is_ball (Ball ball) = true
+is_ball (Spent steps) = false
+is_ball Want = false
+
+abbrev pub is_spent : RunEnd → Bool
+is_spent Exhausted = false
+is_spent (Ball ball) = false
+is_spent (Spent steps) = true
+is_spent Want = false
+
+abbrev pub ends_in_ball : Run → Bool
+ends_in_ball run = is_ball run.end
+
+abbrev pub ends_spent : Run → Bool
+ends_spent run = is_spent run.end
+
+-- 1 where some run ends in a ball, else 7 where some run has spent its budget, else 0
+unfoldable pub status_of : List Run → ℕ
+status_of runs = if list_any ends_in_ball runs then 1 else if list_any ends_spent runs then 7 else 0
+
+abbrev pub EndsInBall : Run → Type 0
+EndsInBall run = IsTrue (ends_in_ball run)
+
+abbrev pub EndsSpent : Run → Type 0
+EndsSpent run = IsTrue (ends_spent run)

@@ -1,0 +1,84 @@
+//! `prolog [GOAL]`: reads a text of facts on standard input, runs one goal over them and writes its answers.
+//!
+//! `session::top` is the whole program over any source and any sink; its clauses say what each status means, what the
+//! sink gains and what is left of the source. `main` calls it with standard input and output.
+#![tactic(auto)]
+
+mod canonical;
+mod finish;
+mod load;
+mod memory;
+mod part;
+mod prepare;
+mod reading;
+mod refusal;
+mod reserved;
+mod run;
+mod runs;
+mod session;
+mod sink;
+mod source;
+mod standard;
+mod steady;
+#[cfg(test)]
+mod tests;
+#[cfg(test)]
+mod text_tests;
+mod texts;
+mod words;
+mod writing;
+
+use crate::finish::WANTED;
+pub use finish::Outcome;
+use journal_base::{OpenGate, Sizes};
+pub use memory::{MemorySink, MemorySource};
+pub use prolog_terms::Want;
+pub use reading::{Text, read_all};
+pub use runs::Runs;
+pub use session::top;
+pub use sink::{Put, Sink};
+pub use source::{Got, Source};
+pub use standard::{StdSink, StdSource};
+use std::env;
+use std::process::ExitCode;
+pub use steady::{SteadySink, SteadySource};
+pub use writing::{Written, write_all};
+
+/// The sizes of the database: its words and its updates.
+const SIZES: Sizes = Sizes {
+    words: 16_777_216,
+    updates: 1_048_576,
+};
+
+fn main(rt: HostRuntime) -> ExitCode {
+    let words = match words_after_the_first(&rt) {
+        Ok(words) => words,
+        Err(_) => return ExitCode::from(WANTED),
+    };
+    let mut source = StdSource::new(rt.stdin());
+    let mut sink = StdSink::new(rt.stdout());
+    let outcome = top(
+        &rt,
+        rt.alloc(),
+        &words,
+        SIZES,
+        &mut source,
+        &mut sink,
+        &OpenGate,
+    );
+    ExitCode::from(outcome.status)
+}
+
+/// The words after the program's name. Where they can't be had, they are one empty word, which is no goal.
+fn words_after_the_first(rt: &HostRuntime) -> Result<Vec<String>, Want> {
+    let mut words = Vec::new(rt.alloc());
+    match env::args(rt) {
+        Ok(args) => {
+            for word in args.skip(1) {
+                words.push(word)?;
+            }
+        }
+        Err(_) => words.push(String::new(rt.alloc()))?,
+    }
+    Ok(words)
+}

@@ -1,0 +1,176 @@
+// Worked rows.
+
+use crate::canonical::put_term;
+use crate::texts::output;
+use journal_base::Tally;
+use prolog_terms::{Name, Node, Term, Want, Whole};
+use std::alloc::Global;
+use std::test::Fail;
+use wam_machine::{Event, Events, Fronts, Run, RunEnd};
+
+// A node, in a table.
+#[derive(Clone, Copy)]
+enum Piece {
+    Var(u64),
+    Int(Whole),
+    Atom(&'static str),
+    Functor(&'static str, u32),
+}
+
+fn node_of(alloc: Global, piece: Piece) -> Result<Node, Want> {
+    Ok(match piece {
+        Piece::Var(number) => Node::Var(number),
+        Piece::Int(whole) => Node::Int(whole),
+        Piece::Atom(name) => Node::Atom(Name::of(alloc, name.as_bytes())?),
+        Piece::Functor(name, arity) => Node::Functor(Name::of(alloc, name.as_bytes())?, arity),
+    })
+}
+
+fn term_of(alloc: Global, pieces: &[Piece]) -> Result<Term, Want> {
+    let mut nodes = Vec::new(alloc);
+    for piece in pieces {
+        nodes.push(node_of(alloc, *piece)?)?;
+    }
+    Term::of_nodes(nodes).map_err(|_| Want)
+}
+
+fn text_of(alloc: Global, term: &Term) -> Result<Vec<u8>, Want> {
+    let mut text = Vec::new(alloc);
+    put_term(&mut text, alloc, term)?;
+    Ok(text)
+}
+
+#[test]
+fn writes_names(rt: HostRuntime) -> Result<(), Fail> {
+    for (name, words) in [
+        ("foo", "foo"),
+        ("fOO_1", "fOO_1"),
+        ("\u{e9}t\u{e9}", "\u{e9}t\u{e9}"),
+        ("Foo", "'Foo'"),
+        ("_f", "'_f'"),
+        ("1f", "'1f'"),
+        ("a b", "'a b'"),
+        ("f,", "'f,'"),
+        ("", "''"),
+        ("[]", "[]"),
+        ("{}", "{}"),
+        ("!", "!"),
+        (";", ";"),
+        (",", "','"),
+        ("|", "'|'"),
+        ("!!", "'!!'"),
+        ("+-*/\\^<>=~:.?@#&$", "+-*/\\^<>=~:.?@#&$"),
+        (".", "'.'"),
+        ("..", ".."),
+        ("/*", "'/*'"),
+        ("/**", "'/**'"),
+        ("/", "/"),
+        ("*/*", "*/*"),
+        ("it's", "'it\\'s'"),
+        ("+ \\", "'+ \\\\'"),
+        ("\u{7}", "'\\x07\\'"),
+        ("\u{1f}\u{7f}", "'\\x1f\\\\x7f\\'"),
+        ("a\n\t\r", "'a\\n\\t\\x0d\\'"),
+    ] {
+        let term = term_of(rt.alloc(), &[Piece::Atom(name)])?;
+        let text = text_of(rt.alloc(), &term)?;
+        assert!(rt; text.as_slice() == words.as_bytes(), "{name}");
+    }
+    Ok(())
+}
+
+fn expect_text(alloc: Global, pieces: &[Piece], words: &str) -> Result<bool, Want> {
+    let term = term_of(alloc, pieces)?;
+    let text = text_of(alloc, &term)?;
+    Ok(text.as_slice() == words.as_bytes())
+}
+
+#[test]
+fn writes_terms(rt: HostRuntime) -> Result<(), Fail> {
+    let alloc = rt.alloc();
+    let small = [Piece::Int(-5)];
+    assert!(rt; expect_text(alloc, &small, "-5")?);
+    let least = [Piece::Int(Whole::MIN)];
+    assert!(rt; expect_text(alloc, &least, "-9223372036854775808")?);
+    let last = [Piece::Var(u64::MAX)];
+    assert!(rt; expect_text(alloc, &last, "_18446744073709551616")?);
+    let indicator = [Piece::Functor("/", 2), Piece::Atom("foo"), Piece::Int(1)];
+    assert!(rt; expect_text(alloc, &indicator, "/(foo,1)")?);
+    let nested = [
+        Piece::Functor("f", 2),
+        Piece::Functor("g", 2),
+        Piece::Int(1),
+        Piece::Atom("h"),
+        Piece::Var(0),
+    ];
+    assert!(rt; expect_text(alloc, &nested, "f(g(1,h),_1)")?);
+    let brackets = [
+        Piece::Functor("[]", 2),
+        Piece::Functor("{}", 1),
+        Piece::Atom("{}"),
+        Piece::Functor("a b", 1),
+        Piece::Atom("[]"),
+    ];
+    assert!(rt; expect_text(alloc, &brackets, "'[]'('{}'({}),'a b'([]))")?);
+    Ok(())
+}
+
+#[test]
+fn writes_deep_terms(rt: HostRuntime) -> Result<(), Fail> {
+    let alloc = rt.alloc();
+    let depth = 100_000;
+    let mut nodes = Vec::new(alloc);
+    let mut words = Vec::new(alloc);
+    for _ in 0..depth {
+        nodes.push(Node::Functor(Name::of(alloc, b"f")?, 1))?;
+        words.extend_from_slice(b"f(")?;
+    }
+    nodes.push(Node::Var(0))?;
+    words.extend_from_slice(b"_1")?;
+    for _ in 0..depth {
+        words.push(b')')?;
+    }
+    let term = Term::of_nodes(nodes).map_err(|_| Want)?;
+    let text = text_of(alloc, &term)?;
+    assert!(rt; text.as_slice() == words.as_slice());
+    Ok(())
+}
+
+fn run_of(alloc: Global, lefts: &[bool], end: RunEnd) -> Result<Run, Want> {
+    let mut events = Vec::new(alloc);
+    for left in lefts {
+        events.push(Event::Answer { left: *left })?;
+    }
+    Ok(Run {
+        engine: 1,
+        transcript: Events::of(events),
+        fronts: Fronts::of(Vec::new(alloc)),
+        tally: Tally::new(),
+        steps: 0,
+        end,
+    })
+}
+
+#[test]
+fn writes_runs(rt: HostRuntime) -> Result<(), Fail> {
+    let alloc = rt.alloc();
+    let ball = term_of(alloc, &[Piece::Functor("oops", 1), Piece::Var(1)])?;
+    let none: [bool; 0] = [];
+    let mut runs = Vec::new(alloc);
+    assert_eq!(rt; output(alloc, &runs)?.len(), 0);
+    runs.push(run_of(alloc, &none, RunEnd::Exhausted)?)?;
+    runs.push(run_of(alloc, &[true, false], RunEnd::Exhausted)?)?;
+    runs.push(run_of(alloc, &[true, true], RunEnd::Exhausted)?)?;
+    runs.push(run_of(alloc, &[true], RunEnd::Ball(ball))?)?;
+    runs.push(run_of(alloc, &none, RunEnd::Spent(7))?)?;
+    runs.push(run_of(alloc, &[false], RunEnd::Want)?)?;
+    let text = output(alloc, &runs)?;
+    let words = "% goal 1\nfalse.\n\
+        % goal 2\ntrue ;\ntrue.\n\
+        % goal 3\ntrue ;\ntrue ;\nfalse.\n\
+        % goal 4\ntrue ;\nerror: oops(_2).\n\
+        % goal 5\nstopped after 7 steps.\n\
+        % goal 6\ntrue.\n";
+    assert!(rt; text.as_slice() == words.as_bytes());
+    Ok(())
+}

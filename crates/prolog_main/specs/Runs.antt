@@ -12,17 +12,20 @@ use Rattle.wam_machine.specs.declared.run.RunEnd.TheVariants.{Exhausted, Ball, S
 abbrev pub step_budget : ℕ
 step_budget = 10_000_000
 
--- these are one run, of the goal over the journal by engine 1, for which memory sufficed
-pub record IsOneRun (goal : Tree) (J : Journal) (runs : List Run) : Type 0 where
+-- these are one run, of the goal over the journal by engine 1 within the budget, for which memory sufficed
+pub record IsOneRun (goal : Tree) (J : Journal) (budget : ℕ) (runs : List Run) : Type 0 where
   pub run : Run
   pub only : runs ≡ run ∷ []
-  pub is_run : IsRunOf 1 J goal step_budget run
+  pub is_run : IsRunOf 1 J goal budget run
   pub ended : run.end ≢ Want
 
--- the runs of a command over a journal: that of its goal, if it has one
+-- the runs of a command over a journal, within a budget: that of its goal, if it has one
+abbrev pub AreRunsWithin : ℕ → Option Tree → Journal → List Run → Type 0
+AreRunsWithin budget None J runs = runs ≡ []
+AreRunsWithin budget (Some goal) J runs = IsOneRun goal J budget runs
+
 abbrev pub AreRuns : Option Tree → Journal → List Run → Type 0
-AreRuns None J runs = runs ≡ []
-AreRuns (Some goal) J runs = IsOneRun goal J runs
+AreRuns = AreRunsWithin step_budget
 
 abbrev pub is_ball : RunEnd → Bool
 is_ball Exhausted = false

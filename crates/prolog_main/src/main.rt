@@ -4,6 +4,9 @@
 //! sink gains and what is left of the source. `main` calls it with standard input and output.
 #![tactic(auto)]
 
+ghost use Rattle.std.specs.Prelude.{◌≡◌};
+ghost use Rattle.std.specs.Process.{exit_status};
+
 mod canonical;
 mod finish;
 mod load;
@@ -40,6 +43,7 @@ pub use sink::{Put, Sink};
 pub use source::{Got, Source};
 pub use standard::{StdSink, StdSource};
 use std::env;
+use std::io::ErrorKind;
 use std::process::ExitCode;
 pub use steady::{SteadySink, SteadySource};
 pub use writing::{Written, write_all};
@@ -66,10 +70,17 @@ fn main(rt: HostRuntime) -> ExitCode {
         &mut sink,
         &OpenGate,
     );
+    ended(&outcome)
+}
+
+/// The program ends with the outcome's status.
+fn ended(outcome: &Outcome) -> ExitCode
+    ensures { exit_status result ≡ outcome.now.status }
+{
     ExitCode::from(outcome.status)
 }
 
-/// The words after the program's name. Where they can't be had, they are one empty word, which is no goal.
+/// The words after the program's name. Where they aren't UTF-8, they are one empty word, which is no goal.
 fn words_after_the_first(rt: &HostRuntime) -> Result<Vec<String>, Want> {
     let mut words = Vec::new(rt.alloc());
     match env::args(rt) {
@@ -78,7 +89,12 @@ fn words_after_the_first(rt: &HostRuntime) -> Result<Vec<String>, Want> {
                 words.push(word)?;
             }
         }
-        Err(_) => words.push(String::new(rt.alloc()))?,
+        Err(error) => {
+            if error.kind() == ErrorKind::OutOfMemory {
+                return Err(Want);
+            }
+            words.push(String::new(rt.alloc()))?;
+        }
     }
     Ok(words)
 }

@@ -6,7 +6,7 @@ ghost use Rattle.prolog_main.specs.Prepared.{Prepares, status_before, text_befor
 
 use crate::load::load_text;
 use crate::refusal::{Refusal, refusal_text, text_of};
-use crate::run::{run_command, status_of_runs};
+use crate::run::{STEP_BUDGET, run_command, status_of_runs};
 use crate::texts::output;
 use crate::words::command;
 use crate::{Runs, Source, Text, read_all};
@@ -52,7 +52,7 @@ pub fn prepare<R: Wait, S: Source, G: Gate>(
     if let Some(refusal) = loaded.refused {
         return Ok(Prepared::Refused(loaded.list.into_entries(), refusal));
     }
-    let ran = run_command(rt, alloc, gate, command, loaded.list, ops)?;
+    let ran = run_command(rt, alloc, gate, command, STEP_BUDGET, loaded.list, ops)?;
     Ok(Prepared::Ran(ran.journal, ran.runs))
 }
 

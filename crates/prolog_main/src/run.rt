@@ -1,8 +1,8 @@
 // The run of a command's goal, and the status that runs give.
-ghost use Rattle.std.specs.Prelude.{◌≡◌, ◌↔◌, IfOk, IfSome, IsTrue};
+ghost use Rattle.std.specs.Prelude.{◌≡◌, ◌≤◌, ◌^◌, ◌↔◌, IfOk, IfSome, IsTrue};
 ghost use Rattle.std.specs.List.{list_any};
 ghost use Rattle.wam_machine.specs.Facts.{IsCallable};
-ghost use Rattle.prolog_main.specs.Runs.{AreRuns, ends_in_ball, ends_spent, status_of};
+ghost use Rattle.prolog_main.specs.Runs.{AreRunsWithin, ends_in_ball, ends_spent, status_of};
 
 use crate::runs::Runs;
 use journal_base::Gate;
@@ -15,7 +15,7 @@ use wam_machine::{Engine, EntryList, Goal, Run, RunEnd};
 const FIRST: u32 = 1;
 
 /// The most steps of a run.
-const STEP_BUDGET: u64 = 10_000_000;
+pub const STEP_BUDGET: u64 = 10_000_000;
 
 /// What a command's goal gave, and the journal over which it ran.
 #[derive(Drop)]
@@ -24,18 +24,20 @@ pub struct Ran {
     pub runs: Runs,
 }
 
-/// Runs the command's goal over the journal of this list, if it has one.
+/// Runs the command's goal over the journal of this list, if it has one, in so many steps at most.
 pub fn run_command<R: Wait, G: Gate>(
     rt: &R,
     alloc: Global,
     gate: &G,
     command: Option<Term>,
+    budget: u64,
     list: EntryList,
     ops: Ops,
 ) -> Result<Ran, Want>
-    requires { IfSome command IsCallable }
+    requires goal { IfSome command IsCallable }
+    requires budget { (1 ≤ budget) × (budget ≤ 10 ^ 11) }
     ensures journal { IfOk result (λ ran. ran.journal ≡ list.journal) }
-    ensures runs { IfOk result (λ ran. AreRuns command list.journal ran.runs) }
+    ensures runs { IfOk result (λ ran. AreRunsWithin budget command list.journal ran.runs) }
 {
     let term = match command {
         Some(term) => term,
@@ -50,7 +52,7 @@ pub fn run_command<R: Wait, G: Gate>(
         Ok(engine) => engine,
         Err(_) => return Err(Want),
     };
-    let run = engine.solve(rt, &Goal { term }, STEP_BUDGET, gate);
+    let run = engine.solve(rt, &Goal { term }, budget, gate);
     if wants(&run) {
         return Err(Want);
     }

@@ -1,12 +1,18 @@
 // Worked rows of `top`.
 
-ghost use Rattle.std.specs.Prelude.{◌<◌};
+ghost use Rattle.std.specs.Prelude.{◌<◌, ◌≤◌, ◌^◌};
 
+use crate::load::load_text;
+use crate::reading::MAX_TEXT;
+use crate::run::run_command;
 use crate::session::top;
+use crate::texts::output;
+use crate::words::command;
 use crate::{MemorySink, MemorySource, Sink, Source, SteadySink, SteadySource};
-use journal_base::{OpenGate, Sizes};
-use prolog_terms::Want;
+use journal_base::{Gate, OpenGate, Sizes};
+use prolog_terms::{Ops, Want};
 use std::alloc::Global;
+use std::cell::Cell;
 use std::sync::Wait;
 use std::thread::Threads;
 
@@ -179,4 +185,85 @@ fn a_sink_that_takes_three_bytes(rt: HostRuntime) {
         Ok(5)
     );
     assert!(rt; sink.bytes() == b"% g".as_slice());
+}
+
+#[test]
+fn a_text_that_is_too_long(rt: HostRuntime) {
+    let bytes = vec![in rt.alloc(); b'a'; MAX_TEXT + 1].expect(&rt, "memory");
+    let mut source = SteadySource::new(bytes, 4096);
+    let mut sink = SteadySink::new(rt.alloc(), 100).expect(&rt, "memory");
+    assert_eq!(rt;
+        status(&rt, rt.alloc(), &["true"], &mut source, &mut sink),
+        Ok(8)
+    );
+    assert!(rt; sink.bytes() == b"error: text too long.\n".as_slice());
+}
+
+/// A gate that counts its passes, and keeps the engine and the look of the last one.
+#[derive(Drop)]
+struct CountingGate {
+    passes: Cell<u64>,
+    engine: Cell<u32>,
+    look: Cell<u64>,
+}
+
+impl Gate for CountingGate {
+    fn pass<R: Wait>(&self, _rt: &R, engine: u32, look: u64) {
+        self.passes.set(self.passes.get().saturating_add(1));
+        self.engine.set(engine);
+        self.look.set(look);
+    }
+}
+
+/// The text of the run of this word over two equal facts, in so many steps at most.
+fn run_within<R: Wait, G: Gate>(
+    rt: &R,
+    alloc: Global,
+    gate: &G,
+    word: &str,
+    budget: u64,
+) -> Result<Vec<u8>, Want>
+    requires { (1 ≤ budget) × (budget ≤ 10 ^ 11) }
+{
+    let ops = Ops::initial(alloc)?;
+    let mut words = Vec::new(alloc);
+    words.push(String::from_str(alloc, word)?)?;
+    let goal = match command(alloc, &ops, &words)? {
+        Some(goal) => goal,
+        None => return Err(Want),
+    };
+    let loaded = load_text(alloc, &ops, b"p(a). p(a).")?;
+    let ran = run_command(rt, alloc, gate, goal, budget, loaded.list, ops)?;
+    output(alloc, ran.runs.items())
+}
+
+#[test]
+fn a_run_spends_its_budget(rt: HostRuntime) {
+    for (budget, text) in [
+        (1, "% goal 1\ntrue ;\nstopped after 1 steps.\n"),
+        (2, "% goal 1\ntrue ;\ntrue.\n"),
+        (3, "% goal 1\ntrue ;\ntrue.\n"),
+    ] {
+        let written = run_within(&rt, rt.alloc(), &OpenGate, "p(a)", budget);
+        assert!(rt;
+            matches!(&written, Ok(bytes) if bytes.as_slice() == text.as_bytes()),
+            "budget {budget}"
+        );
+    }
+}
+
+#[test]
+fn a_look_passes_the_gate(rt: HostRuntime) {
+    for (word, passes) in [("p(a)", 1), ("p(b)", 1), ("true", 0)] {
+        let gate = CountingGate {
+            passes: Cell::new(0),
+            engine: Cell::new(0),
+            look: Cell::new(0),
+        };
+        let written = run_within(&rt, rt.alloc(), &gate, word, 10);
+        assert!(rt; written.is_ok());
+        assert_eq!(rt; gate.passes.get(), passes, "{word}");
+        assert_eq!(rt; gate.look.get(), passes, "{word}");
+        assert_eq!(rt; u64::from(gate.engine.get()), passes, "{word}");
+    }
 }

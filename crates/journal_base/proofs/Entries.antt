@@ -1,18 +1,18 @@
 -- A journal and one entry more.
-use Rattle.std.proofs.Common.{◌≡◌, ℕ, suc, zero, ◌+◌, ◌<◌, List, [], ◌∷◌, ◌++◌, length, take, map, Bool, true, false, Option, Some, None, slice_get, refl, sym, ap, ◌∙◌, arith, subst, add_assoc, append-nil}
+use Rattle.std.proofs.Common.{◌≡◌, ℕ, suc, zero, ◌+◌, List, [], ◌∷◌, ◌++◌, length, take, ◌≤◌, Bool, true, false, Option, Some, None, slice_get, refl, sym, ap, ◌∙◌, arith, subst, append-nil}
 use Rattle.std.proofs.Common.{◌⊎◌, inl, inr}
 use Rattle.std.specs.Prelude.{if◌then◌else◌, ◌==◌, nat_eq}
 use Rattle.std.specs.Cmp.Lexicographic.{pointwise, bytes_decides}
 use Rattle.std.proofs.lemmas.Bool.{and_parts, and_from, eqb-true, eq-eqb}
-use Rattle.std.specs.List.{flat_map}
-use Rattle.std.proofs.lemmas.Grind.{flat_map-append}
+use Rattle.std.proofs.lemmas.List.Sums.{sum_by_push}
+use Rattle.std.proofs.lemmas.Grind.{flat_map-append, common_steps}
 use Rattle.prolog_terms.specs.declared.entry.Entry.{Entry}
 use Rattle.prolog_terms.specs.declared.entry.Indicator.{Indicator}
 use Rattle.prolog_terms.specs.declared.entry.Kind.{Kind}
-use Rattle.prolog_terms.specs.declared.entry.What.{What}
-use Rattle.prolog_terms.specs.declared.entry.What.TheVariants.{Declare, Add, Erase}
+use Rattle.prolog_terms.specs.declared.entry.What.TheVariants.{Declare}
 use Rattle.journal_base.specs.Journal.{Journal, procedures, declaration, numbered_from, number_of, same_indicator}
 use Rattle.journal_base.specs.Legal.{Legal, MayFollow}
+use Rattle.journal_base.specs.Space.{used, need}
 
 -- ---- places
 
@@ -33,18 +33,33 @@ one (y ∷ J) e (suc n) x h = further (one J e n x h)
     further (inl p) = inl (p.0, ap (λ l. y ∷ l) p.1)
     further (inr p) = inr (p.0, ap (λ l. y ∷ l) p.1)
 
--- a legal journal and an entry that may follow it
-pub Legal-push : (J : Journal) (e : Entry) → Legal J → MayFollow J e.by e.what → Legal (J ++ e ∷ [])
+-- ---- room
+
+pub used-push : (J : Journal) (e : Entry) → used (J ++ e ∷ []) ≡ used J + need e.what
+unfolding used
+used-push J e = sum_by_push (λ x. need x.what) J e
+
+length-push : (J : Journal) (e : Entry) → length (J ++ e ∷ []) ≡ length J + 1
+length-push J e = grind (arith, common_steps)
+
+-- a legal journal and an entry that may follow it, for which there is room
+pub Legal-push : (words updates : ℕ) (J : Journal) (e : Entry) → Legal words updates J → MayFollow J e.by e.what
+    → used J + need e.what ≤ words → length J + 1 ≤ updates → Legal words updates (J ++ e ∷ [])
 unfolding Before Last
-Legal-push J e l may = record { follows = λ n x h. go n x (one J e n x h) }
+Legal-push words updates J e l may fits few = record {
+  follows = λ n x h. go n x (one J e n x h);
+  few = subst (λ n. n ≤ updates) (sym (length-push J e)) few;
+  fits = subst (λ n. n ≤ words) (sym (used-push J e)) fits;
+}
   where
     go : (n : ℕ) (x : Entry) → Before J e n x ⊎ Last J e n x → MayFollow (take n (J ++ e ∷ [])) x.by x.what
     go n x (inl p) = subst (λ l. MayFollow l x.by x.what) (sym p.1) (l.follows n x p.0)
     go n x (inr p) = subst (λ l. MayFollow l x.by x.what) (sym p.1) (subst (λ y. MayFollow J y.by y.what) (sym p.0) may)
 
--- no journal is legal as the empty one is
-pub Legal-nil : Legal []
-Legal-nil = record { follows = λ n e h. absurd cc }
+-- the empty journal is legal
+pub Legal-nil : (words updates : ℕ) → Legal words updates []
+unfolding used
+Legal-nil words updates = record { follows = λ n e h. absurd cc; few = omega arith; fits = omega arith }
 
 -- ---- procedures
 

@@ -1,6 +1,6 @@
 -- A journal is the list of a database's updates. A clause is named by the index, counted from 0, of the entry that adds it;
 -- a procedure is numbered by how many were declared before it.
-use Rattle.std.specs.Prelude.{ℕ, ◌+◌, if◌then◌else◌, List, [], ◌∷◌, ◌++◌, length, Bool, true, false, ◌&&◌, ◌==◌, not, filter, reverse, Option, Some, None, option_and_then, slice_get, nat_eq}
+use Rattle.std.specs.Prelude.{ℕ, ◌+◌, if◌then◌else◌, List, [], ◌∷◌, ◌++◌, length, Bool, true, false, ◌&&◌, ◌==◌, not, filter, reverse, Option, Some, None, option_and_then, option_map, slice_get, nat_eq}
 use Rattle.std.specs.List.{list_any, flat_map}
 use Rattle.std.specs.Option.{option_map_or}
 use Rattle.std.specs.Cmp.Lexicographic.{pointwise}
@@ -60,6 +60,10 @@ numbered_from n (d ∷ ds) i = if same_indicator i d.0 then Some n else numbered
 -- the number of the procedure that has this indicator
 abbrev pub number_of : Journal → Indicator → Option ℕ
 number_of J i = numbered_from 0 (procedures J) i
+
+-- the procedure that has this indicator: its number, and its kind
+abbrev pub procedure_named : Journal → Indicator → Option (ℕ × Kind)
+procedure_named J i = option_and_then (λ p. option_map (λ d. (p, d.1)) (slice_get (procedures J) p)) (number_of J i)
 
 -- the clause named k
 abbrev pub clause_named : Journal → ℕ → Option Clause

@@ -1,9 +1,9 @@
 -- What a text gives as a term has no variables.
 use Rattle.std.proofs.Common.{◌≡◌, ℕ, ◌+◌, ◌<◌, List, [], ◌∷◌, Bool, true, false, cond, Option, Some, None, refl, sym, ◌∙◌, ap, arith}
-use Rattle.std.specs.Prelude.{option_and_then}
+use Rattle.std.specs.Prelude.{◌&&◌, option_and_then, codes}
 use Rattle.std.proofs.lemmas.Bool.{and_parts, and_from}
 use Rattle.prolog_terms.specs.Tree.{Tree, Trees, variable, integer, atom, compound, none, more}
-use Rattle.prolog_terms.specs.Variables.{met_after, all_met_after}
+use Rattle.prolog_terms.specs.Variables.{met_after, all_met_after, AreNumbered}
 use Rattle.prolog_terms.specs.declared.ops.Operator.{Operator}
 use Rattle.prolog_reader.specs.Streams.{Stream, ended, refused, token}
 use Rattle.prolog_reader.specs.Grammar.{parse}
@@ -13,7 +13,18 @@ use Rattle.prolog_reader.specs.declared.token.Token.{Token}
 use Rattle.prolog_reader.specs.declared.token.TokenKind.TheVariants.{Stop}
 use Rattle.prolog_reader.proofs.Complete.{read_has}
 use Rattle.prolog_reader.proofs.Sentences.{later}
-use Rattle.wam_machine.specs.Facts.{is_ground, are_ground}
+
+-- no variable stands in the term
+abbrev mutual
+  is_ground : Tree → Bool
+  is_ground (variable n) = false
+  is_ground (integer z) = true
+  is_ground (atom a) = true
+  is_ground (compound f ts) = are_ground ts
+
+  are_ground : Trees → Bool
+  are_ground none = true
+  are_ground (more t ts) = is_ground t && are_ground ts
 
 mutual
   ground_term : {ts us : List Token} {t : Tree} → Reads ts t us → is_ground t ≡ true
@@ -80,7 +91,7 @@ answer-nothing ops (token u rest) ts h = go (answer-nothing ops rest ts) (is_sto
 
 -- a term without variables meets none
 mutual
-  pub met-ground : (t : Tree) (k : ℕ) → is_ground t ≡ true → met_after t k ≡ Some k
+  met-ground : (t : Tree) (k : ℕ) → is_ground t ≡ true → met_after t k ≡ Some k
   met-ground (variable n) k h = cc
   met-ground (integer z) k h = refl
   met-ground (atom a) k h = refl
@@ -91,3 +102,7 @@ mutual
   all_met-ground (more t ts) k h =
       let p = and_parts (is_ground t) (are_ground ts) h in
       ap (option_and_then (all_met_after ts)) (met-ground t k p.0) ∙ all_met-ground ts k p.1
+
+-- as the head of a fact it has no variables to number
+pub numbered-ground : (t : Tree) → is_ground t ≡ true → AreNumbered t (atom (codes "true")) 0
+numbered-ground t h = ap (option_and_then (met_after (atom (codes "true")))) (met-ground t 0 h)

@@ -1,7 +1,10 @@
 pub mod Pieces
 pub mod Walks
+pub mod Plains
+pub mod Ran
 pub mod Ground
 pub mod Facts
+pub mod Placing
 pub mod Loads
 pub mod OneTerm
 pub mod Rows

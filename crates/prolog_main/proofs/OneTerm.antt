@@ -1,5 +1,5 @@
 -- A text that is one read-term.
-use Rattle.std.proofs.Common.{◌≡◌, ℕ, List, [], ◌∷◌, ◌++◌, Option, Some, None, refl, sym, ◌∙◌, ap, subst, map, true, IfSome}
+use Rattle.std.proofs.Common.{◌≡◌, ℕ, List, [], ◌∷◌, ◌++◌, Option, Some, None, refl, sym, ◌∙◌, ap, subst, map, IfSome}
 use Rattle.prolog_terms.specs.Tree.{Tree, variable, integer, atom, compound}
 use Rattle.prolog_terms.specs.Operators.{initial_operators}
 use Rattle.prolog_terms.specs.declared.ops.Operator.{Operator}
@@ -9,8 +9,7 @@ use Rattle.prolog_reader.specs.declared.reader.Read.{Read}
 use Rattle.prolog_reader.specs.declared.reader.Read.TheVariants.{Term, End, Refused}
 use Rattle.prolog_reader.specs.declared.reader.ReadTerm.{ReadTerm}
 use Rattle.prolog_reader.proofs.Sentences.{later, sentences-unfold}
-use Rattle.prolog_main.specs.Words.{only_term, term_of, callable, goal_in, or_else, goal_of, with_goal, command_of}
-use Rattle.wam_machine.specs.Facts.{is_ground, IsCallable}
+use Rattle.prolog_main.specs.Words.{only_term, term_of, callable, IsCallable, goal_in, or_else, goal_of, with_goal, command_of}
 use Rattle.prolog_main.proofs.Ground.{answer-read, answer-nothing}
 
 abbrev answers : Stream → List Answer
@@ -99,38 +98,19 @@ second-more ops s r text n t a o e h f k other =
 
 -- ---- a goal can be called
 
-only_term-first : (a : Answer) (more : List Answer) (t : Tree) → only_term (a ∷ more) ≡ Some t → (n : ℕ) × (a ≡ a_term n t)
-only_term-first (a_term n u) (nothing ∷ []) t h = (n, let e : u ≡ t = cc in ap (a_term n) e)
-only_term-first (a_term n u) [] t h = absurd cc
-only_term-first (a_term n u) (nothing ∷ b ∷ bs) t h = absurd cc
-only_term-first (a_term n u) (a_term m v ∷ bs) t h = absurd cc
-only_term-first (a_term n u) (refusal m k ∷ bs) t h = absurd cc
-only_term-first (refusal n m) more t h = let e : None ≡ Some t = sym (first-other n m more) ∙ h in absurd cc
-only_term-first nothing [] t h = absurd cc
-only_term-first nothing (b ∷ bs) t h = absurd cc
+callable-is : (t u : Tree) → callable t ≡ Some u → IsCallable u
+callable-is (variable n) u h = absurd cc
+callable-is (integer z) u h = absurd cc
+callable-is (atom a) u h = let e : atom a ≡ u = cc in subst IsCallable e refl
+callable-is (compound f ts) u h = let e : compound f ts ≡ u = cc in subst IsCallable e refl
 
-term_of-ground : (text : List ℕ) (t : Tree) → term_of text ≡ Some t → is_ground t ≡ true
-unfolding term_of read_of
-term_of-ground text t h =
-    let s = tokens text in
-    let all = map (answer_of initial_operators) (later (tail s).how (tail s).rest) in
-    let first = only_term-first (read s) all t (sym (ap only_term (answers-front s)) ∙ h) in
-    (answer-read initial_operators s (upto s) first.0 t first.1).ground
-
-callable-ground : (t u : Tree) → is_ground t ≡ true → callable t ≡ Some u → IsCallable u
-callable-ground (variable n) u g h = absurd cc
-callable-ground (integer z) u g h = absurd cc
-callable-ground (atom a) u g h = let e : atom a ≡ u = cc in subst IsCallable e (record { named = refl; ground = g })
-callable-ground (compound f ts) u g h = let e : compound f ts ≡ u = cc in subst IsCallable e (record { named = refl; ground = g })
+goal_in-callable : (o : Option Tree) (u : Tree) → goal_in o ≡ Some u → IsCallable u
+goal_in-callable None u h = absurd cc
+goal_in-callable (Some t) u h = callable-is t u h
 
 goal_of-callable : (word : List ℕ) (u : Tree) → goal_of word ≡ Some u → IsCallable u
 unfolding goal_of
-goal_of-callable word u h = go (term_of word) refl (term_of (word ++ 10 ∷ 46 ∷ [])) refl h
-  where
-    go : (o : Option Tree) → term_of word ≡ o → (p : Option Tree) → term_of (word ++ 10 ∷ 46 ∷ []) ≡ p → goal_in (or_else o p) ≡ Some u → IsCallable u
-    go (Some t) e p f k = callable-ground t u (term_of-ground word t e) k
-    go None e (Some t) f k = callable-ground t u (term_of-ground (word ++ 10 ∷ 46 ∷ []) t f) k
-    go None e None f k = absurd cc
+goal_of-callable word u h = goal_in-callable (or_else (term_of word) (term_of (word ++ 10 ∷ 46 ∷ []))) u h
 
 with_goal-callable : (o : Option Tree) (p : Option Tree) → ((u : Tree) → o ≡ Some u → IsCallable u) → with_goal o ≡ Some p → IfSome p IsCallable
 with_goal-callable None p h e = absurd cc

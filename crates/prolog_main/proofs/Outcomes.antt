@@ -1,5 +1,5 @@
 -- What each status tells of the outcome and of the sink, and that no other status is answered.
-use Rattle.std.proofs.Common.{◌≡◌, ◌⊎◌, inl, inr, ℕ, ◌<◌, ◌≤◌, Bool, true, false, nat_lt, List, [], length, take, zero, suc, None, Some, Ok, Err, refl, sym, ◌∙◌, ap, subst, arith, IfOk, IfSome, IsSome, IsNone}
+use Rattle.std.proofs.Common.{◌≡◌, ◌⊎◌, inl, inr, ℕ, ◌<◌, ◌≤◌, Bool, true, false, nat_lt, List, [], ◌++◌, length, take, zero, suc, None, Some, Ok, Err, refl, sym, ◌∙◌, ap, subst, arith, IfOk, IfSome, IsSome, IsNone}
 use Rattle.std.proofs.lemmas.Bool.{lt-ltb, le-ltb}
 use Rattle.std.specs.declared.option.Option.{Option}
 use Rattle.std.specs.declared.result.Result.{Result}
@@ -8,6 +8,7 @@ use Rattle.prolog_terms.specs.declared.want.Want.{Want}
 use Rattle.prolog_terms.specs.Tree.{Tree}
 use Rattle.journal_base.specs.Journal.{Journal}
 use Rattle.journal_base.specs.Legal.{Legal}
+use Rattle.journal_base.specs.declared.sizes.Sizes.{Sizes}
 use Rattle.wam_machine.specs.declared.run.Run.{Run}
 use Rattle.prolog_main.specs.declared.writing.Written.{Written}
 use Rattle.prolog_main.specs.declared.writing.Written.TheVariants.{All as Wrote, Failed as Cut, Want as Wanted}
@@ -16,23 +17,54 @@ use Rattle.prolog_main.specs.declared.prepare.Prepared.{Prepared}
 use Rattle.prolog_main.specs.declared.prepare.Prepared.TheVariants.{BadWords, SourceFailed, TooLong, Refused, Ran}
 use Rattle.prolog_main.specs.WholeText.{max_text}
 use Rattle.prolog_main.specs.Sinks.{AppendsPrefix}
-use Rattle.prolog_main.specs.Load.{refusal_of}
+use Rattle.prolog_main.specs.Load.{load_runs_of, refusal_of}
 use Rattle.prolog_main.specs.Errors.{bad_words_text, source_text, too_long_text, refusal_text}
-use Rattle.prolog_main.specs.Headline.{IsRun, IsLoaded, IsEmpty, IsStatus, expected, expected_of, Ends, IsTooLong, HasLoaded, HasRefused, Gains, HasBegun, of_bad_words, of_source, of_too_long, of_refusal, of_runs}
-use Rattle.prolog_main.specs.Output.{output_of}
+use Rattle.prolog_main.specs.Headline.{IsRun, HasRuns, IsLoaded, IsEmpty, IsStatus, expected, expected_of, Ends, IsTooLong, HasLoaded, HasRun, HasRefused, Gains, HasBegun, of_bad_words, of_source, of_too_long, of_refusal, of_runs}
+use Rattle.prolog_main.specs.Runs.{step_budget, AreRunsBehind}
+use Rattle.prolog_main.specs.Output.{load_text, output_of}
 use Rattle.prolog_main.specs.Prepared.{Prepares, status_before}
 use Rattle.prolog_main.specs.Ends.{final_status, final_journal, final_runs, runs_left, shown}
 use Rattle.prolog_main.proofs.Loads.{Legal-journal_of}
-use Rattle.prolog_main.proofs.Rows.{status_small, run_is_not, run_is_not_2, run_is_not_3, run_is_not_4, run_is_not_8, told_long, told_fits, told_refusal}
+use Rattle.prolog_main.proofs.Rows.{status_small, run_is_not, run_is_not_2, run_is_not_3, run_is_not_4, run_is_not_8, not_ran, told_long, told_fits, told_runs, told_refusal}
 
 -- ---- the outcome
 
-pub no_runs_row : (p : Result Prepared Want) (w : Written) → final_status p w ≡ 3 → final_runs p w ≡ []
-no_runs_row (Err want) w e = refl
-no_runs_row (Ok p) Wanted e = refl
-no_runs_row (Ok (Ran journal runs)) Wrote e = absurd (run_is_not_3 runs e)
-no_runs_row (Ok (Ran journal runs)) Cut e = absurd (omega arith)
-no_runs_row (Ok p) w e = refl
+-- where the text was refused, the runs are the load's
+pub load_runs_row : (sizes : Sizes) (command : Option (Option Tree)) (so sn : Option (List ℕ)) (p : Result Prepared Want) (w : Written) →
+    IfOk p (Prepares sizes command so sn) → final_status p w ≡ 3 → IfSome so (λ text. final_runs p w ≡ load_runs_of sizes text)
+load_runs_row sizes command None sn p w h e = tt
+load_runs_row sizes command (Some bytes) sn (Err want) w h e = absurd (omega arith)
+load_runs_row sizes command (Some bytes) sn (Ok (Refused journal runs refusal)) Wrote h e = told_runs sizes bytes sn journal runs (Some refusal) h.1
+load_runs_row sizes command (Some bytes) sn (Ok (Refused journal runs refusal)) Cut h e = told_runs sizes bytes sn journal runs (Some refusal) h.1
+load_runs_row sizes command (Some bytes) sn (Ok (Ran journal runs)) Wrote h e = absurd (run_is_not_3 runs e)
+load_runs_row sizes command (Some bytes) sn (Ok p) Wrote h e = absurd (omega arith)
+load_runs_row sizes command (Some bytes) sn (Ok p) Cut h e = absurd (omega arith)
+load_runs_row sizes command (Some bytes) sn (Ok p) Wanted h e = absurd (omega arith)
+
+-- where the goal has run
+pub ran_row : (sizes : Sizes) (command : Option (Option Tree)) (so sn : Option (List ℕ)) (p : Result Prepared Want) (w : Written) →
+    IfOk p (Prepares sizes command so sn) → HasRuns (final_status p w) → HasRun sizes command so sn (final_journal p w) (final_runs p w)
+ran_row sizes command so sn (Err want) w h e = absurd (not_ran 6 e (λ f. omega arith) (λ f. omega arith) (λ f. omega arith) (λ f. omega arith))
+ran_row sizes command so sn (Ok p) Wanted h e = absurd (not_ran 6 e (λ f. omega arith) (λ f. omega arith) (λ f. omega arith) (λ f. omega arith))
+ran_row sizes command so sn (Ok BadWords) Wrote h e = absurd (not_ran 2 e (λ f. omega arith) (λ f. omega arith) (λ f. omega arith) (λ f. omega arith))
+ran_row sizes command so sn (Ok BadWords) Cut h e = absurd (not_ran 2 e (λ f. omega arith) (λ f. omega arith) (λ f. omega arith) (λ f. omega arith))
+ran_row sizes command so sn (Ok SourceFailed) Wrote h e = absurd (not_ran 4 e (λ f. omega arith) (λ f. omega arith) (λ f. omega arith) (λ f. omega arith))
+ran_row sizes command so sn (Ok SourceFailed) Cut h e = absurd (not_ran 4 e (λ f. omega arith) (λ f. omega arith) (λ f. omega arith) (λ f. omega arith))
+ran_row sizes command so sn (Ok TooLong) Wrote h e = absurd (not_ran 8 e (λ f. omega arith) (λ f. omega arith) (λ f. omega arith) (λ f. omega arith))
+ran_row sizes command so sn (Ok TooLong) Cut h e = absurd (not_ran 8 e (λ f. omega arith) (λ f. omega arith) (λ f. omega arith) (λ f. omega arith))
+ran_row sizes command so sn (Ok (Refused journal runs refusal)) Wrote h e = absurd (not_ran 3 e (λ f. omega arith) (λ f. omega arith) (λ f. omega arith) (λ f. omega arith))
+ran_row sizes command so sn (Ok (Refused journal runs refusal)) Cut h e = absurd (not_ran 3 e (λ f. omega arith) (λ f. omega arith) (λ f. omega arith) (λ f. omega arith))
+ran_row sizes command so sn (Ok (Ran journal runs)) Wrote h e = h
+ran_row sizes command so sn (Ok (Ran journal runs)) Cut h e = h
+
+-- where the source tells its text, the runs begin with those of its load
+pub runs_told : (sizes : Sizes) (command : Option (Option Tree)) (so sn : Option (List ℕ)) (journal : Journal) (runs : List Run) → HasRun sizes command so sn journal runs
+    → IfSome so (λ text. IfSome command (λ goal. AreRunsBehind step_budget (load_runs_of sizes text) goal journal runs))
+runs_told sizes command None sn journal runs h = tt
+runs_told sizes command (Some bytes) sn journal runs h =
+    let loads : h.loads ≡ load_runs_of sizes bytes = told_runs sizes bytes sn journal h.loads None h.loaded in
+    let P : Option (Option Tree) → Type 0 = λ c. IfSome c (λ goal. AreRunsBehind step_budget (load_runs_of sizes bytes) goal journal runs) in
+    subst P (sym h.goal_is) (subst (λ (l : List Run). AreRunsBehind step_budget l h.goal journal runs) loads h.runs_are)
 
 -- where neither the journal nor the runs are told, the status is none of these
 record IsApart (k : ℕ) : Type 0 where
@@ -53,8 +85,8 @@ empty_row (Err want) w e = (refl, refl)
 empty_row (Ok p) Wanted e = (refl, refl)
 empty_row (Ok (Ran journal runs)) Wrote e = let a = apart _ e in absurd (run_is_not _ runs a.not_0 a.not_1 a.not_7 refl)
 empty_row (Ok (Ran journal runs)) Cut e = absurd ((apart _ e).not_5 refl)
-empty_row (Ok (Refused journal refusal)) Wrote e = absurd ((apart _ e).not_3 refl)
-empty_row (Ok (Refused journal refusal)) Cut e = absurd ((apart _ e).not_3 refl)
+empty_row (Ok (Refused journal runs refusal)) Wrote e = absurd ((apart _ e).not_3 refl)
+empty_row (Ok (Refused journal runs refusal)) Cut e = absurd ((apart _ e).not_3 refl)
 empty_row (Ok p) w e = (refl, refl)
 
 not_loaded : (k : ℕ) → IsEmpty k → IsLoaded k → ⊥
@@ -64,23 +96,24 @@ not_loaded k e (inl (inl (inr (inr h)))) = (apart k e).not_7 h
 not_loaded k e (inl (inr h)) = (apart k e).not_5 h
 not_loaded k e (inr h) = (apart k e).not_3 h
 
-loaded_legal : (so sn : Option (List ℕ)) (journal : Journal) (refused : Option Refusal) → HasLoaded so sn journal refused → Legal journal
-loaded_legal so sn journal refused h = subst Legal (sym h.journal_is) (Legal-journal_of h.text)
+loaded_legal : (sizes : Sizes) (so sn : Option (List ℕ)) (journal : Journal) (runs : List Run) (refused : Option Refusal) → HasLoaded sizes so sn journal runs refused
+    → Legal sizes.words sizes.updates journal
+loaded_legal sizes so sn journal runs refused h = subst (Legal sizes.words sizes.updates) (sym h.journal_is) (Legal-journal_of sizes h.text)
 
-pub legal_row : (command : Option (Option Tree)) (so sn : Option (List ℕ)) (p : Result Prepared Want) (w : Written) →
-    IfOk p (Prepares command so sn) → IsLoaded (final_status p w) → Legal (final_journal p w)
-legal_row command so sn (Err want) w h e = absurd (not_loaded 6 (inr (inr (inl refl))) e)
-legal_row command so sn (Ok p) Wanted h e = absurd (not_loaded 6 (inr (inr (inl refl))) e)
-legal_row command so sn (Ok BadWords) Wrote h e = absurd (not_loaded 2 (inl refl) e)
-legal_row command so sn (Ok BadWords) Cut h e = absurd (not_loaded 2 (inl refl) e)
-legal_row command so sn (Ok SourceFailed) Wrote h e = absurd (not_loaded 4 (inr (inl refl)) e)
-legal_row command so sn (Ok SourceFailed) Cut h e = absurd (not_loaded 4 (inr (inl refl)) e)
-legal_row command so sn (Ok TooLong) Wrote h e = absurd (not_loaded 8 (inr (inr (inr refl))) e)
-legal_row command so sn (Ok TooLong) Cut h e = absurd (not_loaded 8 (inr (inr (inr refl))) e)
-legal_row command so sn (Ok (Refused journal refusal)) Wrote h e = loaded_legal so sn journal (Some refusal) h.1
-legal_row command so sn (Ok (Refused journal refusal)) Cut h e = loaded_legal so sn journal (Some refusal) h.1
-legal_row command so sn (Ok (Ran journal runs)) Wrote h e = loaded_legal so sn journal None h.loaded
-legal_row command so sn (Ok (Ran journal runs)) Cut h e = loaded_legal so sn journal None h.loaded
+pub legal_row : (sizes : Sizes) (command : Option (Option Tree)) (so sn : Option (List ℕ)) (p : Result Prepared Want) (w : Written) →
+    IfOk p (Prepares sizes command so sn) → IsLoaded (final_status p w) → Legal sizes.words sizes.updates (final_journal p w)
+legal_row sizes command so sn (Err want) w h e = absurd (not_loaded 6 (inr (inr (inl refl))) e)
+legal_row sizes command so sn (Ok p) Wanted h e = absurd (not_loaded 6 (inr (inr (inl refl))) e)
+legal_row sizes command so sn (Ok BadWords) Wrote h e = absurd (not_loaded 2 (inl refl) e)
+legal_row sizes command so sn (Ok BadWords) Cut h e = absurd (not_loaded 2 (inl refl) e)
+legal_row sizes command so sn (Ok SourceFailed) Wrote h e = absurd (not_loaded 4 (inr (inl refl)) e)
+legal_row sizes command so sn (Ok SourceFailed) Cut h e = absurd (not_loaded 4 (inr (inl refl)) e)
+legal_row sizes command so sn (Ok TooLong) Wrote h e = absurd (not_loaded 8 (inr (inr (inr refl))) e)
+legal_row sizes command so sn (Ok TooLong) Cut h e = absurd (not_loaded 8 (inr (inr (inr refl))) e)
+legal_row sizes command so sn (Ok (Refused journal runs refusal)) Wrote h e = loaded_legal sizes so sn journal runs (Some refusal) h.1
+legal_row sizes command so sn (Ok (Refused journal runs refusal)) Cut h e = loaded_legal sizes so sn journal runs (Some refusal) h.1
+legal_row sizes command so sn (Ok (Ran journal runs)) Wrote h e = loaded_legal sizes so sn journal h.loads None h.loaded
+legal_row sizes command so sn (Ok (Ran journal runs)) Cut h e = loaded_legal sizes so sn journal h.loads None h.loaded
 
 -- ---- what the sink gained
 
@@ -128,18 +161,18 @@ shown_too_long (Ok p) Cut e = absurd (omega arith)
 shown_too_long (Ok p) Wanted e = absurd (omega arith)
 
 -- a text that was refused, and the text of its refusal
-pub in_part_row : (command : Option (Option Tree)) (so sn ko kn : Option (List ℕ)) (rk : Type 0) (p : Result Prepared Want) (w : Written) →
-    IfOk p (Prepares command so sn) → AppendsPrefix ko kn (shown p) → (w ≡ Wrote → Appends ko kn (shown p)) → (w ≡ Cut → rk) →
-    final_status p w ≡ 3 → HasRefused so sn (final_journal p w) rk ko kn
-in_part_row command so sn ko kn rk (Err want) w h prefix whole cut e = absurd (omega arith)
-in_part_row command so sn ko kn rk (Ok (Refused journal refusal)) Wrote h prefix whole cut e =
-    record { refusal = refusal; loaded = h.1; gains = gains rk ko kn (refusal_text refusal) Wrote prefix whole cut (λ f. cc) }
-in_part_row command so sn ko kn rk (Ok (Refused journal refusal)) Cut h prefix whole cut e =
-    record { refusal = refusal; loaded = h.1; gains = gains rk ko kn (refusal_text refusal) Cut prefix whole cut (λ f. cc) }
-in_part_row command so sn ko kn rk (Ok (Ran journal runs)) Wrote h prefix whole cut e = absurd (run_is_not_3 runs e)
-in_part_row command so sn ko kn rk (Ok p) Wrote h prefix whole cut e = absurd (omega arith)
-in_part_row command so sn ko kn rk (Ok p) Cut h prefix whole cut e = absurd (omega arith)
-in_part_row command so sn ko kn rk (Ok p) Wanted h prefix whole cut e = absurd (omega arith)
+pub in_part_row : (sizes : Sizes) (command : Option (Option Tree)) (so sn ko kn : Option (List ℕ)) (rk : Type 0) (p : Result Prepared Want) (w : Written) →
+    IfOk p (Prepares sizes command so sn) → AppendsPrefix ko kn (shown p) → (w ≡ Wrote → Appends ko kn (shown p)) → (w ≡ Cut → rk) →
+    final_status p w ≡ 3 → HasRefused sizes so sn (final_journal p w) (final_runs p w) rk ko kn
+in_part_row sizes command so sn ko kn rk (Err want) w h prefix whole cut e = absurd (omega arith)
+in_part_row sizes command so sn ko kn rk (Ok (Refused journal runs refusal)) Wrote h prefix whole cut e =
+    record { refusal = refusal; loaded = h.1; gains = gains rk ko kn (load_text runs ++ refusal_text refusal) Wrote prefix whole cut (λ f. cc) }
+in_part_row sizes command so sn ko kn rk (Ok (Refused journal runs refusal)) Cut h prefix whole cut e =
+    record { refusal = refusal; loaded = h.1; gains = gains rk ko kn (load_text runs ++ refusal_text refusal) Cut prefix whole cut (λ f. cc) }
+in_part_row sizes command so sn ko kn rk (Ok (Ran journal runs)) Wrote h prefix whole cut e = absurd (run_is_not_3 runs e)
+in_part_row sizes command so sn ko kn rk (Ok p) Wrote h prefix whole cut e = absurd (omega arith)
+in_part_row sizes command so sn ko kn rk (Ok p) Cut h prefix whole cut e = absurd (omega arith)
+in_part_row sizes command so sn ko kn rk (Ok p) Wanted h prefix whole cut e = absurd (omega arith)
 
 -- ---- no other status
 
@@ -164,21 +197,21 @@ is_some : (command : Option (Option Tree)) (goal : Option Tree) → command ≡ 
 is_some None goal h = cc
 is_some (Some other) goal h = refl
 
-expected_loaded : (command : Option (Option Tree)) (bytes : List ℕ) (sn : Option (List ℕ)) (journal : Journal) (refused : Option Refusal) (runs : List Run) →
-    IsSome command → HasLoaded (Some bytes) sn journal refused → expected command bytes runs ≡ expected_of false refused runs
-expected_loaded command bytes sn journal refused runs some h =
+expected_loaded : (sizes : Sizes) (command : Option (Option Tree)) (bytes : List ℕ) (sn : Option (List ℕ)) (journal : Journal) (loads : List Run) (refused : Option Refusal)
+    (runs : List Run) → IsSome command → HasLoaded sizes (Some bytes) sn journal loads refused → expected command bytes runs ≡ expected_of false refused runs
+expected_loaded sizes command bytes sn journal loads refused runs some h =
     taken command bytes runs some ∙ short bytes (refusal_of bytes) runs (told_fits bytes sn h.text h.took)
-    ∙ ap (λ (o : Option Refusal). expected_of false o runs) (told_refusal bytes sn journal refused h)
+    ∙ ap (λ (o : Option Refusal). expected_of false o runs) (told_refusal sizes bytes sn journal loads refused h)
 
 -- what was prepared has the status that is expected
-expected_told : (command : Option (Option Tree)) (bytes : List ℕ) (sn : Option (List ℕ)) (p : Prepared) → (p ≡ SourceFailed → ⊥) →
-    Prepares command (Some bytes) sn p → status_before p ≡ expected command bytes (runs_left p)
-expected_told command bytes sn BadWords other h = sym (no_command command bytes [] h.0)
-expected_told command bytes sn SourceFailed other h = absurd (other refl)
-expected_told command bytes sn TooLong other h = sym (taken command bytes [] h.0 ∙ long bytes (refusal_of bytes) [] (told_long bytes sn h.1))
-expected_told command bytes sn (Refused journal refusal) other h = sym (expected_loaded command bytes sn journal (Some refusal) [] h.0 h.1)
-expected_told command bytes sn (Ran journal runs) other h =
-    sym (expected_loaded command bytes sn journal None runs (is_some command h.goal h.goal_is) h.loaded)
+expected_told : (sizes : Sizes) (command : Option (Option Tree)) (bytes : List ℕ) (sn : Option (List ℕ)) (p : Prepared) → (p ≡ SourceFailed → ⊥) →
+    Prepares sizes command (Some bytes) sn p → status_before p ≡ expected command bytes (runs_left p)
+expected_told sizes command bytes sn BadWords other h = sym (no_command command bytes [] h.0)
+expected_told sizes command bytes sn SourceFailed other h = absurd (other refl)
+expected_told sizes command bytes sn TooLong other h = sym (taken command bytes [] h.0 ∙ long bytes (refusal_of bytes) [] (told_long bytes sn h.1))
+expected_told sizes command bytes sn (Refused journal runs refusal) other h = sym (expected_loaded sizes command bytes sn journal runs (Some refusal) runs h.0 h.1)
+expected_told sizes command bytes sn (Ran journal runs) other h =
+    sym (expected_loaded sizes command bytes sn journal h.loads None runs (is_some command h.goal h.goal_is) h.loaded)
 
 -- words that are taken lead to another status than 2
 not_two : (b : Bool) (o : Option Refusal) (runs : List Run) → expected_of b o runs ≡ 2 → ⊥
@@ -189,38 +222,38 @@ not_two false None runs e = run_is_not_2 runs e
 taken_not_two : (command : Option (Option Tree)) (bytes : List ℕ) (runs : List Run) → IsSome command → expected command bytes runs ≡ 2 → ⊥
 taken_not_two command bytes runs h e = not_two _ _ runs (sym (taken command bytes runs h) ∙ e)
 
-pub complete_row : (command : Option (Option Tree)) (so sn : Option (List ℕ)) (rs rk : Type 0) (p : Result Prepared Want) (w : Written) →
-    IfOk p (Prepares command so sn) → IfOk p (λ x. x ≡ SourceFailed → rs) → (w ≡ Cut → rk) →
+pub complete_row : (sizes : Sizes) (command : Option (Option Tree)) (so sn : Option (List ℕ)) (rs rk : Type 0) (p : Result Prepared Want) (w : Written) →
+    IfOk p (Prepares sizes command so sn) → IfOk p (λ x. x ≡ SourceFailed → rs) → (w ≡ Cut → rk) →
     IfSome so (λ bytes. Ends (expected command bytes (final_runs p w)) rs rk (final_status p w))
-complete_row command None sn rs rk p w h f cut = tt
-complete_row command (Some bytes) sn rs rk (Err want) w h f cut = inr (inl refl)
-complete_row command (Some bytes) sn rs rk (Ok p) Wanted h f cut = inr (inl refl)
-complete_row command (Some bytes) sn rs rk (Ok SourceFailed) Wrote h f cut = inr (inr (inl (refl, taken_not_two command bytes [] h, f refl)))
-complete_row command (Some bytes) sn rs rk (Ok SourceFailed) Cut h f cut = inr (inr (inl (refl, taken_not_two command bytes [] h, f refl)))
-complete_row command (Some bytes) sn rs rk (Ok (Ran journal runs)) Cut h f cut =
-    inr (inr (inr (refl, subst IsRun (expected_told command bytes sn (Ran journal runs) (λ e. cc) h) (status_small runs), cut refl)))
-complete_row command (Some bytes) sn rs rk (Ok p) Wrote h f cut = inl (expected_told command bytes sn p (λ e. cc) h)
-complete_row command (Some bytes) sn rs rk (Ok p) Cut h f cut = inl (expected_told command bytes sn p (λ e. cc) h)
+complete_row sizes command None sn rs rk p w h f cut = tt
+complete_row sizes command (Some bytes) sn rs rk (Err want) w h f cut = inr (inl refl)
+complete_row sizes command (Some bytes) sn rs rk (Ok p) Wanted h f cut = inr (inl refl)
+complete_row sizes command (Some bytes) sn rs rk (Ok SourceFailed) Wrote h f cut = inr (inr (inl (refl, taken_not_two command bytes [] h, f refl)))
+complete_row sizes command (Some bytes) sn rs rk (Ok SourceFailed) Cut h f cut = inr (inr (inl (refl, taken_not_two command bytes [] h, f refl)))
+complete_row sizes command (Some bytes) sn rs rk (Ok (Ran journal runs)) Cut h f cut =
+    inr (inr (inr (refl, subst IsRun (expected_told sizes command bytes sn (Ran journal runs) (λ e. cc) h) (status_small runs), cut refl)))
+complete_row sizes command (Some bytes) sn rs rk (Ok p) Wrote h f cut = inl (expected_told sizes command bytes sn p (λ e. cc) h)
+complete_row sizes command (Some bytes) sn rs rk (Ok p) Cut h f cut = inl (expected_told sizes command bytes sn p (λ e. cc) h)
 
 -- ---- the source, want of memory, and every status
 
-pub unread_row : (command : Option (Option Tree)) (so sn : Option (List ℕ)) (p : Result Prepared Want) (w : Written) →
-    IfOk p (Prepares command so sn) → final_status p w ≡ 2 → Keeps so sn
-unread_row command so sn (Err want) w h e = absurd (omega arith)
-unread_row command so sn (Ok BadWords) w h e = h.1
-unread_row command so sn (Ok (Ran journal runs)) Wrote h e = absurd (run_is_not_2 runs e)
-unread_row command so sn (Ok p) Wrote h e = absurd (omega arith)
-unread_row command so sn (Ok p) Cut h e = absurd (omega arith)
-unread_row command so sn (Ok p) Wanted h e = absurd (omega arith)
+pub unread_row : (sizes : Sizes) (command : Option (Option Tree)) (so sn : Option (List ℕ)) (p : Result Prepared Want) (w : Written) →
+    IfOk p (Prepares sizes command so sn) → final_status p w ≡ 2 → Keeps so sn
+unread_row sizes command so sn (Err want) w h e = absurd (omega arith)
+unread_row sizes command so sn (Ok BadWords) w h e = h.1
+unread_row sizes command so sn (Ok (Ran journal runs)) Wrote h e = absurd (run_is_not_2 runs e)
+unread_row sizes command so sn (Ok p) Wrote h e = absurd (omega arith)
+unread_row sizes command so sn (Ok p) Cut h e = absurd (omega arith)
+unread_row sizes command so sn (Ok p) Wanted h e = absurd (omega arith)
 
-pub too_long_read_row : (command : Option (Option Tree)) (so sn : Option (List ℕ)) (p : Result Prepared Want) (w : Written) →
-    IfOk p (Prepares command so sn) → final_status p w ≡ 8 → IsTooLong so sn
-too_long_read_row command so sn (Err want) w h e = absurd (omega arith)
-too_long_read_row command so sn (Ok TooLong) w h e = h.1
-too_long_read_row command so sn (Ok (Ran journal runs)) Wrote h e = absurd (run_is_not_8 runs e)
-too_long_read_row command so sn (Ok p) Wrote h e = absurd (omega arith)
-too_long_read_row command so sn (Ok p) Cut h e = absurd (omega arith)
-too_long_read_row command so sn (Ok p) Wanted h e = absurd (omega arith)
+pub too_long_read_row : (sizes : Sizes) (command : Option (Option Tree)) (so sn : Option (List ℕ)) (p : Result Prepared Want) (w : Written) →
+    IfOk p (Prepares sizes command so sn) → final_status p w ≡ 8 → IsTooLong so sn
+too_long_read_row sizes command so sn (Err want) w h e = absurd (omega arith)
+too_long_read_row sizes command so sn (Ok TooLong) w h e = h.1
+too_long_read_row sizes command so sn (Ok (Ran journal runs)) Wrote h e = absurd (run_is_not_8 runs e)
+too_long_read_row sizes command so sn (Ok p) Wrote h e = absurd (omega arith)
+too_long_read_row sizes command so sn (Ok p) Cut h e = absurd (omega arith)
+too_long_read_row sizes command so sn (Ok p) Wanted h e = absurd (omega arith)
 
 take-nil : (n : ℕ) → take {A = ℕ} n [] ≡ []
 take-nil zero = refl
@@ -230,17 +263,17 @@ nothing : (ko kn : Option (List ℕ)) → AppendsPrefix ko kn [] → Appends ko 
 nothing ko kn h = subst (λ (s : List ℕ). Appends ko kn s) (take-nil h.0) h.1
 
 -- at want of memory the sink gained nothing, or a prefix of what was to be written
-pub wanted_row : (command : Option (Option Tree)) (so sn ko kn : Option (List ℕ)) (rs : Type 0) (p : Result Prepared Want) →
-    IfOk p (Prepares command so sn) → IfOk p (λ x. x ≡ SourceFailed → rs) → AppendsPrefix ko kn (shown p) →
-    Appends ko kn [] ⊎ HasBegun command rs so sn ko kn
-wanted_row command so sn ko kn rs (Err want) h f prefix = inl (nothing ko kn prefix)
-wanted_row command so sn ko kn rs (Ok BadWords) h f prefix = inr (record { text = bad_words_text; cause = of_bad_words h.0; prefix = prefix })
-wanted_row command so sn ko kn rs (Ok SourceFailed) h f prefix = inr (record { text = source_text; cause = of_source h (f refl); prefix = prefix })
-wanted_row command so sn ko kn rs (Ok TooLong) h f prefix = inr (record { text = too_long_text; cause = of_too_long h.0 h.1; prefix = prefix })
-wanted_row command so sn ko kn rs (Ok (Refused journal refusal)) h f prefix =
-    inr (record { text = refusal_text refusal; cause = of_refusal journal refusal h.0 h.1; prefix = prefix })
-wanted_row command so sn ko kn rs (Ok (Ran journal runs)) h f prefix =
-    inr (record { text = output_of runs; cause = of_runs h.goal journal runs h.goal_is h.loaded h.runs_are; prefix = prefix })
+pub wanted_row : (sizes : Sizes) (command : Option (Option Tree)) (so sn ko kn : Option (List ℕ)) (rs : Type 0) (p : Result Prepared Want) →
+    IfOk p (Prepares sizes command so sn) → IfOk p (λ x. x ≡ SourceFailed → rs) → AppendsPrefix ko kn (shown p) →
+    Appends ko kn [] ⊎ HasBegun sizes command rs so sn ko kn
+wanted_row sizes command so sn ko kn rs (Err want) h f prefix = inl (nothing ko kn prefix)
+wanted_row sizes command so sn ko kn rs (Ok BadWords) h f prefix = inr (record { text = bad_words_text; cause = of_bad_words h.0; prefix = prefix })
+wanted_row sizes command so sn ko kn rs (Ok SourceFailed) h f prefix = inr (record { text = source_text; cause = of_source h (f refl); prefix = prefix })
+wanted_row sizes command so sn ko kn rs (Ok TooLong) h f prefix = inr (record { text = too_long_text; cause = of_too_long h.0 h.1; prefix = prefix })
+wanted_row sizes command so sn ko kn rs (Ok (Refused journal runs refusal)) h f prefix =
+    inr (record { text = load_text runs ++ refusal_text refusal; cause = of_refusal journal runs refusal h.0 h.1; prefix = prefix })
+wanted_row sizes command so sn ko kn rs (Ok (Ran journal runs)) h f prefix =
+    inr (record { text = output_of runs; cause = of_runs journal runs h; prefix = prefix })
 
 pub statuses_row : (p : Result Prepared Want) (w : Written) → IsStatus (final_status p w)
 statuses_row (Err want) w = inr (inr (inr (inl refl)))
@@ -248,6 +281,6 @@ statuses_row (Ok p) Wanted = inr (inr (inr (inl refl)))
 statuses_row (Ok BadWords) w = inr (inl refl)
 statuses_row (Ok SourceFailed) w = inr (inr (inl refl))
 statuses_row (Ok TooLong) w = inr (inr (inr (inr refl)))
-statuses_row (Ok (Refused journal refusal)) w = inl (inr refl)
+statuses_row (Ok (Refused journal runs refusal)) w = inl (inr refl)
 statuses_row (Ok (Ran journal runs)) Cut = inl (inl (inr refl))
 statuses_row (Ok (Ran journal runs)) Wrote = inl (inl (inl (status_small runs)))

@@ -7,6 +7,7 @@ use Rattle.std.specs.declared.result.Result.{Result}
 use Rattle.prolog_terms.specs.declared.want.Want.{Want}
 use Rattle.prolog_terms.specs.Tree.{Tree}
 use Rattle.journal_base.specs.Journal.{Journal}
+use Rattle.journal_base.specs.declared.sizes.Sizes.{Sizes}
 use Rattle.wam_machine.specs.declared.run.Run.{Run}
 use Rattle.prolog_main.specs.declared.writing.Written.{Written}
 use Rattle.prolog_main.specs.declared.writing.Written.TheVariants.{All as Wrote, Failed as Cut, Want as Wanted}
@@ -14,9 +15,9 @@ use Rattle.prolog_main.specs.declared.refusal.Refusal.{Refusal}
 use Rattle.prolog_main.specs.declared.prepare.Prepared.{Prepared}
 use Rattle.prolog_main.specs.declared.prepare.Prepared.TheVariants.{BadWords, SourceFailed, TooLong, Refused, Ran}
 use Rattle.prolog_main.specs.WholeText.{max_text}
-use Rattle.prolog_main.specs.Load.{refusal_of}
+use Rattle.prolog_main.specs.Load.{load_runs_of, refusal_of}
 use Rattle.prolog_main.specs.Runs.{status_of, ends_in_ball, ends_spent, EndsInBall, EndsSpent}
-use Rattle.prolog_main.specs.Headline.{IsRun, Took, IsTooLong, HasLoaded}
+use Rattle.prolog_main.specs.Headline.{IsRun, HasRuns, Took, IsTooLong, HasLoaded}
 use Rattle.prolog_main.specs.Prepared.{Prepares}
 use Rattle.prolog_main.specs.Ends.{final_status, final_runs}
 
@@ -38,6 +39,10 @@ is_not : (k : ℕ) → IsRun k → (k ≡ 0 → ⊥) → (k ≡ 1 → ⊥) → (
 is_not k (inl e) zero one seven = zero e
 is_not k (inr (inl e)) zero one seven = one e
 is_not k (inr (inr e)) zero one seven = seven e
+
+pub not_ran : (k : ℕ) → HasRuns k → (k ≡ 0 → ⊥) → (k ≡ 1 → ⊥) → (k ≡ 7 → ⊥) → (k ≡ 5 → ⊥) → ⊥
+not_ran k (inl h) zero one seven five = is_not k h zero one seven
+not_ran k (inr e) zero one seven five = five e
 
 pub run_is_not : (k : ℕ) (runs : List Run) → (k ≡ 0 → ⊥) → (k ≡ 1 → ⊥) → (k ≡ 7 → ⊥) → status_of runs ≡ k → ⊥
 run_is_not k runs zero one seven e = is_not k (subst IsRun e (status_small runs)) zero one seven
@@ -110,21 +115,25 @@ told_long bytes (Some rest) t =
 pub told_fits : (bytes : List ℕ) (sn : Option (List ℕ)) (text : List ℕ) → Took (Some bytes) sn text → length bytes ≤ max_text
 told_fits bytes sn text t = subst (λ (s : List ℕ). length s ≤ max_text) (told_text bytes sn text t) t.fits
 
-pub told_refusal : (bytes : List ℕ) (sn : Option (List ℕ)) (journal : Journal) (refused : Option Refusal) → HasLoaded (Some bytes) sn journal refused
-    → refusal_of bytes ≡ refused
-told_refusal bytes sn journal refused h = ap (λ (s : List ℕ). refusal_of s) (sym (told_text bytes sn h.text h.took)) ∙ h.refused_is
+pub told_refusal : (sizes : Sizes) (bytes : List ℕ) (sn : Option (List ℕ)) (journal : Journal) (runs : List Run) (refused : Option Refusal)
+    → HasLoaded sizes (Some bytes) sn journal runs refused → refusal_of bytes ≡ refused
+told_refusal sizes bytes sn journal runs refused h = ap (λ (s : List ℕ). refusal_of s) (sym (told_text bytes sn h.text h.took)) ∙ h.refused_is
+
+pub told_runs : (sizes : Sizes) (bytes : List ℕ) (sn : Option (List ℕ)) (journal : Journal) (runs : List Run) (refused : Option Refusal)
+    → HasLoaded sizes (Some bytes) sn journal runs refused → runs ≡ load_runs_of sizes bytes
+told_runs sizes bytes sn journal runs refused h = h.runs_are ∙ ap (λ (s : List ℕ). load_runs_of sizes s) (told_text bytes sn h.text h.took)
 
 -- ---- the rows
 
-pub bad_words_row : (command : Option (Option Tree)) (so sn : Option (List ℕ)) (p : Result Prepared Want) (w : Written) →
-    IfOk p (Prepares command so sn) → final_status p w ≡ 2 → IsNone command
-bad_words_row command so sn (Err want) w h e = absurd (omega arith)
-bad_words_row command so sn (Ok BadWords) Wrote h e = h.0
-bad_words_row command so sn (Ok BadWords) Cut h e = h.0
-bad_words_row command so sn (Ok (Ran journal runs)) Wrote h e = absurd (run_is_not_2 runs e)
-bad_words_row command so sn (Ok p) Wrote h e = absurd (omega arith)
-bad_words_row command so sn (Ok p) Cut h e = absurd (omega arith)
-bad_words_row command so sn (Ok p) Wanted h e = absurd (omega arith)
+pub bad_words_row : (sizes : Sizes) (command : Option (Option Tree)) (so sn : Option (List ℕ)) (p : Result Prepared Want) (w : Written) →
+    IfOk p (Prepares sizes command so sn) → final_status p w ≡ 2 → IsNone command
+bad_words_row sizes command so sn (Err want) w h e = absurd (omega arith)
+bad_words_row sizes command so sn (Ok BadWords) Wrote h e = h.0
+bad_words_row sizes command so sn (Ok BadWords) Cut h e = h.0
+bad_words_row sizes command so sn (Ok (Ran journal runs)) Wrote h e = absurd (run_is_not_2 runs e)
+bad_words_row sizes command so sn (Ok p) Wrote h e = absurd (omega arith)
+bad_words_row sizes command so sn (Ok p) Cut h e = absurd (omega arith)
+bad_words_row sizes command so sn (Ok p) Wanted h e = absurd (omega arith)
 
 pub source_row : (rs : Type 0) (p : Result Prepared Want) (w : Written) → IfOk p (λ x. x ≡ SourceFailed → rs) → final_status p w ≡ 4 → rs
 source_row rs (Err want) w h e = absurd (omega arith)
@@ -135,30 +144,30 @@ source_row rs (Ok p) Wrote h e = absurd (omega arith)
 source_row rs (Ok p) Cut h e = absurd (omega arith)
 source_row rs (Ok p) Wanted h e = absurd (omega arith)
 
-pub too_long_row : (command : Option (Option Tree)) (so sn : Option (List ℕ)) (p : Result Prepared Want) (w : Written) →
-    IfOk p (Prepares command so sn) → final_status p w ≡ 8 → IfSome so (λ text. max_text < length text)
-too_long_row command None sn p w h e = tt
-too_long_row command (Some bytes) sn (Err want) w h e = absurd (omega arith)
-too_long_row command (Some bytes) sn (Ok TooLong) Wrote h e = told_long bytes sn h.1
-too_long_row command (Some bytes) sn (Ok TooLong) Cut h e = told_long bytes sn h.1
-too_long_row command (Some bytes) sn (Ok (Ran journal runs)) Wrote h e = absurd (run_is_not_8 runs e)
-too_long_row command (Some bytes) sn (Ok p) Wrote h e = absurd (omega arith)
-too_long_row command (Some bytes) sn (Ok p) Cut h e = absurd (omega arith)
-too_long_row command (Some bytes) sn (Ok p) Wanted h e = absurd (omega arith)
+pub too_long_row : (sizes : Sizes) (command : Option (Option Tree)) (so sn : Option (List ℕ)) (p : Result Prepared Want) (w : Written) →
+    IfOk p (Prepares sizes command so sn) → final_status p w ≡ 8 → IfSome so (λ text. max_text < length text)
+too_long_row sizes command None sn p w h e = tt
+too_long_row sizes command (Some bytes) sn (Err want) w h e = absurd (omega arith)
+too_long_row sizes command (Some bytes) sn (Ok TooLong) Wrote h e = told_long bytes sn h.1
+too_long_row sizes command (Some bytes) sn (Ok TooLong) Cut h e = told_long bytes sn h.1
+too_long_row sizes command (Some bytes) sn (Ok (Ran journal runs)) Wrote h e = absurd (run_is_not_8 runs e)
+too_long_row sizes command (Some bytes) sn (Ok p) Wrote h e = absurd (omega arith)
+too_long_row sizes command (Some bytes) sn (Ok p) Cut h e = absurd (omega arith)
+too_long_row sizes command (Some bytes) sn (Ok p) Wanted h e = absurd (omega arith)
 
 some_refusal : (o : Option Refusal) (r : Refusal) → o ≡ Some r → IsSome o
 some_refusal None r e = cc
 some_refusal (Some x) r e = refl
 
-pub refused_row : (command : Option (Option Tree)) (so sn : Option (List ℕ)) (p : Result Prepared Want) (w : Written) →
-    IfOk p (Prepares command so sn) → final_status p w ≡ 3 → IfSome so (λ text. IsSome (refusal_of text))
-refused_row command None sn p w h e = tt
-refused_row command (Some bytes) sn (Err want) w h e = absurd (omega arith)
-refused_row command (Some bytes) sn (Ok (Refused journal refusal)) w h e = some_refusal _ refusal (told_refusal bytes sn journal (Some refusal) h.1)
-refused_row command (Some bytes) sn (Ok (Ran journal runs)) Wrote h e = absurd (run_is_not_3 runs e)
-refused_row command (Some bytes) sn (Ok p) Wrote h e = absurd (omega arith)
-refused_row command (Some bytes) sn (Ok p) Cut h e = absurd (omega arith)
-refused_row command (Some bytes) sn (Ok p) Wanted h e = absurd (omega arith)
+pub refused_row : (sizes : Sizes) (command : Option (Option Tree)) (so sn : Option (List ℕ)) (p : Result Prepared Want) (w : Written) →
+    IfOk p (Prepares sizes command so sn) → final_status p w ≡ 3 → IfSome so (λ text. IsSome (refusal_of text))
+refused_row sizes command None sn p w h e = tt
+refused_row sizes command (Some bytes) sn (Err want) w h e = absurd (omega arith)
+refused_row sizes command (Some bytes) sn (Ok (Refused journal runs refusal)) w h e = some_refusal _ refusal (told_refusal sizes bytes sn journal runs (Some refusal) h.1)
+refused_row sizes command (Some bytes) sn (Ok (Ran journal runs)) Wrote h e = absurd (run_is_not_3 runs e)
+refused_row sizes command (Some bytes) sn (Ok p) Wrote h e = absurd (omega arith)
+refused_row sizes command (Some bytes) sn (Ok p) Cut h e = absurd (omega arith)
+refused_row sizes command (Some bytes) sn (Ok p) Wanted h e = absurd (omega arith)
 
 pub sink_row : (rk : Type 0) (p : Result Prepared Want) (w : Written) → (w ≡ Cut → rk) → final_status p w ≡ 5 → rk
 sink_row rk (Err want) w h e = absurd (omega arith)
@@ -178,7 +187,7 @@ from_runs P k is h (Ok p) Wrote e = absurd (is_not k is (λ z. omega arith) (λ 
 from_runs P k is h (Ok BadWords) Cut e = absurd (is_not k is (λ z. omega arith) (λ z. omega arith) (λ z. omega arith))
 from_runs P k is h (Ok SourceFailed) Cut e = absurd (is_not k is (λ z. omega arith) (λ z. omega arith) (λ z. omega arith))
 from_runs P k is h (Ok TooLong) Cut e = absurd (is_not k is (λ z. omega arith) (λ z. omega arith) (λ z. omega arith))
-from_runs P k is h (Ok (Refused journal refusal)) Cut e = absurd (is_not k is (λ z. omega arith) (λ z. omega arith) (λ z. omega arith))
+from_runs P k is h (Ok (Refused journal runs refusal)) Cut e = absurd (is_not k is (λ z. omega arith) (λ z. omega arith) (λ z. omega arith))
 from_runs P k is h (Ok (Ran journal runs)) Cut e = absurd (is_not k is (λ z. omega arith) (λ z. omega arith) (λ z. omega arith))
 
 pub ball_row : (p : Result Prepared Want) (w : Written) → final_status p w ≡ 1 → Any EndsInBall (final_runs p w)

@@ -25,11 +25,12 @@ final_status (Ok prepared) Cut = failed_status prepared
 final_status (Ok prepared) Wanted = 6
 
 abbrev pub journal_left : Prepared → Journal
-journal_left (Refused journal refusal) = journal
+journal_left (Refused journal runs refusal) = journal
 journal_left (Ran journal runs) = journal
 journal_left prepared = []
 
 abbrev pub runs_left : Prepared → List Run
+runs_left (Refused journal runs refusal) = runs
 runs_left (Ran journal runs) = runs
 runs_left prepared = []
 

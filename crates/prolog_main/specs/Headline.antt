@@ -1,16 +1,17 @@
 -- What each status of the program means.
-use Rattle.std.specs.Prelude.{◌≡◌, ◌≢◌, ◌⊎◌, ℕ, ◌<◌, ◌≤◌, Bool, true, false, nat_lt, List, length, Option, Some, None, IsSome, IsNone}
+use Rattle.std.specs.Prelude.{◌≡◌, ◌≢◌, ◌⊎◌, ℕ, ◌<◌, ◌≤◌, Bool, true, false, nat_lt, List, ◌++◌, length, Option, Some, None, IsSome, IsNone}
 use Rattle.std.specs.Io.KnownBytes.{Appends, Consumes, IsAtEnd}
 use Rattle.prolog_terms.specs.Tree.{Tree}
 use Rattle.journal_base.specs.Journal.{Journal}
+use Rattle.journal_base.specs.declared.sizes.Sizes.{Sizes}
 use Rattle.wam_machine.specs.declared.run.Run.{Run}
 use Rattle.prolog_main.specs.WholeText.{max_text}
 use Rattle.prolog_main.specs.Sinks.{AppendsPrefix}
 use Rattle.prolog_main.specs.declared.refusal.Refusal.{Refusal}
-use Rattle.prolog_main.specs.Load.{journal_of, refusal_of}
+use Rattle.prolog_main.specs.Load.{journal_of, load_runs_of, refusal_of}
 use Rattle.prolog_main.specs.Errors.{bad_words_text, source_text, too_long_text, refusal_text}
-use Rattle.prolog_main.specs.Runs.{AreRuns, status_of}
-use Rattle.prolog_main.specs.Output.{output_of}
+use Rattle.prolog_main.specs.Runs.{step_budget, AreRunsBehind, status_of}
+use Rattle.prolog_main.specs.Output.{load_text, output_of}
 
 -- ---- statuses
 
@@ -22,7 +23,7 @@ IsRun status = (status ≡ 0) ⊎ ((status ≡ 1) ⊎ (status ≡ 7))
 abbrev pub HasRuns : ℕ → Type 0
 HasRuns status = IsRun status ⊎ (status ≡ 5)
 
--- the journal is the load's
+-- the journal is the load's, and the runs are the load's or begin with them
 abbrev pub IsLoaded : ℕ → Type 0
 IsLoaded status = HasRuns status ⊎ (status ≡ 3)
 
@@ -64,12 +65,21 @@ pub record IsTooLong (old new : Option (List ℕ)) : Type 0 where
   pub long : max_text < length bytes
   pub took : Consumes old new bytes
 
--- The journal is that of a text that was taken whole, told or not, and so is the refusal.
-pub record HasLoaded (old new : Option (List ℕ)) (journal : Journal) (refused : Option Refusal) : Type 0 where
+-- The journal and the runs are those of the load of a text that was taken whole, told or not, and so is the refusal.
+pub record HasLoaded (sizes : Sizes) (old new : Option (List ℕ)) (journal : Journal) (runs : List Run) (refused : Option Refusal) : Type 0 where
   pub text : List ℕ
   pub took : Took old new text
-  pub journal_is : journal ≡ journal_of text
+  pub journal_is : journal ≡ journal_of sizes text
+  pub runs_are : runs ≡ load_runs_of sizes text
   pub refused_is : refusal_of text ≡ refused
+
+-- A text was loaded whole, and the goal was run: the runs are those of the load, and then those of the command over its journal.
+pub record HasRun (sizes : Sizes) (command : Option (Option Tree)) (old new : Option (List ℕ)) (journal : Journal) (runs : List Run) : Type 0 where
+  pub goal : Option Tree
+  pub goal_is : command ≡ Some goal
+  pub loads : List Run
+  pub loaded : HasLoaded sizes old new journal loads None
+  pub runs_are : AreRunsBehind step_budget loads goal journal runs
 
 -- ---- what was written
 
@@ -78,24 +88,24 @@ pub record Gains (failed : Type 0) (old new : Option (List ℕ)) (bytes : List �
   pub prefix : AppendsPrefix old new bytes
   pub whole : Appends old new bytes ⊎ failed
 
--- a text that was taken whole was refused, and the sink gained the text of its refusal
-pub record HasRefused (old new : Option (List ℕ)) (journal : Journal) (failed : Type 0) (before after : Option (List ℕ)) : Type 0 where
+-- a text that was taken whole was refused, and the sink gained the text of its load so far and of its refusal
+pub record HasRefused (sizes : Sizes) (old new : Option (List ℕ)) (journal : Journal) (runs : List Run) (failed : Type 0) (before after : Option (List ℕ)) : Type 0 where
   pub refusal : Refusal
-  pub loaded : HasLoaded old new journal (Some refusal)
-  pub gains : Gains failed before after (refusal_text refusal)
+  pub loaded : HasLoaded sizes old new journal runs (Some refusal)
+  pub gains : Gains failed before after (load_text runs ++ refusal_text refusal)
 
 -- what is to be written, by its cause: the words, the source that failed, or what was read
-pub data IsToBeWritten (command : Option (Option Tree)) (failed : Type 0) (old new : Option (List ℕ)) : List ℕ → Type 0 where
-  of_bad_words : IsNone command → IsToBeWritten command failed old new bad_words_text
-  of_source : IsSome command → failed → IsToBeWritten command failed old new source_text
-  of_too_long : IsSome command → IsTooLong old new → IsToBeWritten command failed old new too_long_text
-  of_refusal : (journal : Journal) (refusal : Refusal) → IsSome command → HasLoaded old new journal (Some refusal)
-      → IsToBeWritten command failed old new (refusal_text refusal)
-  of_runs : (goal : Option Tree) (journal : Journal) (runs : List Run) → command ≡ Some goal → HasLoaded old new journal None
-      → AreRuns goal journal runs → IsToBeWritten command failed old new (output_of runs)
+pub data IsToBeWritten (sizes : Sizes) (command : Option (Option Tree)) (failed : Type 0) (old new : Option (List ℕ)) : List ℕ → Type 0 where
+  of_bad_words : IsNone command → IsToBeWritten sizes command failed old new bad_words_text
+  of_source : IsSome command → failed → IsToBeWritten sizes command failed old new source_text
+  of_too_long : IsSome command → IsTooLong old new → IsToBeWritten sizes command failed old new too_long_text
+  of_refusal : (journal : Journal) (runs : List Run) (refusal : Refusal) → IsSome command → HasLoaded sizes old new journal runs (Some refusal)
+      → IsToBeWritten sizes command failed old new (load_text runs ++ refusal_text refusal)
+  of_runs : (journal : Journal) (runs : List Run) → HasRun sizes command old new journal runs
+      → IsToBeWritten sizes command failed old new (output_of runs)
 
 -- the sink gained a prefix of what is to be written
-pub record HasBegun (command : Option (Option Tree)) (failed : Type 0) (old new before after : Option (List ℕ)) : Type 0 where
+pub record HasBegun (sizes : Sizes) (command : Option (Option Tree)) (failed : Type 0) (old new before after : Option (List ℕ)) : Type 0 where
   pub text : List ℕ
-  pub cause : IsToBeWritten command failed old new text
+  pub cause : IsToBeWritten sizes command failed old new text
   pub prefix : AppendsPrefix before after text

@@ -1,17 +1,24 @@
 -- The load of a text (docs/LANGUAGE.md, "Programs").
-use Rattle.std.specs.Prelude.{ℕ, List, [], ◌∷◌, ◌++◌, length, Option, Some, None, if◌then◌else◌, codes}
+use Rattle.std.specs.Prelude.{ℕ, ◌+◌, List, [], ◌∷◌, ◌++◌, length, Bool, true, false, ◌&&◌, nat_le, nat_lt, Option, Some, None, if◌then◌else◌, codes}
 use Rattle.prolog_terms.specs.Tree.{Tree, atom}
 use Rattle.prolog_terms.specs.Indicators.{indicator_of}
 use Rattle.prolog_terms.specs.Operators.{initial_operators}
+use Rattle.prolog_terms.specs.Faults.{fault_tree}
+use Rattle.prolog_terms.specs.declared.fault.Fault.TheVariants.{Resource}
 use Rattle.prolog_terms.specs.declared.entry.Entry.{Entry}
 use Rattle.prolog_terms.specs.declared.entry.Clause.{Clause}
 use Rattle.prolog_terms.specs.declared.entry.Indicator.{Indicator}
 use Rattle.prolog_terms.specs.declared.entry.Kind.TheVariants.{Static}
 use Rattle.prolog_terms.specs.declared.entry.End.TheVariants.{Back}
+use Rattle.prolog_terms.specs.declared.entry.What.{What}
 use Rattle.prolog_terms.specs.declared.entry.What.TheVariants.{Declare, Add}
 use Rattle.journal_base.specs.Journal.{Journal, procedures, number_of}
+use Rattle.journal_base.specs.Space.{used, need}
+use Rattle.journal_base.specs.declared.sizes.Sizes.{Sizes}
 use Rattle.prolog_reader.specs.Streams.{tokens}
 use Rattle.prolog_reader.specs.Texts.{Answer, a_term, nothing, refusal, Sentence, sentences, answer_of}
+use Rattle.wam_machine.specs.declared.run.Run.{Run}
+use Rattle.wam_machine.specs.declared.run.RunEnd.TheVariants.{Ball}
 use Rattle.prolog_main.specs.Reserved.{is_reserved}
 use Rattle.prolog_main.specs.declared.refusal.Refusal.{Refusal}
 use Rattle.prolog_main.specs.declared.part.Part.{Part}
@@ -25,71 +32,139 @@ no_fact line = Refused (record { line = line; fault = 7 })
 
 abbrev pub part_of_term : ℕ → Tree → Option Indicator → Part
 part_of_term line t None = no_fact line
-part_of_term line t (Some i) = if is_reserved i then no_fact line else Fact i t
+part_of_term line t (Some i) = if is_reserved i then no_fact line else Fact line i t
 
 abbrev pub part_of : Answer → Part
 part_of (a_term line t) = part_of_term line t (indicator_of t)
 part_of (refusal line fault) = Refused (record { line = line; fault = fault })
 part_of nothing = End
 
+abbrev pub part_in : Sentence → Part
+part_in s = part_of (answer_of initial_operators s)
+
 -- ---- what a fact adds
 
 abbrev pub fact : Tree → Clause
 fact t = record { head = t; body = atom (codes "true"); vars = 0 }
 
-abbrev pub declares : Indicator → Entry
-declares i = record { by = 0; what = Declare i Static }
+abbrev pub by_load : What → Entry
+by_load what = record { by = 0; what = what }
 
-abbrev pub adds : ℕ → Tree → Entry
-adds p t = record { by = 0; what = Add Back p (fact t) }
+-- the base has words enough for an update, and takes one more
+abbrev pub has_room : Sizes → Journal → What → Bool
+has_room sizes J what = nat_le (used J + need what) sizes.words && nat_lt (length J) sizes.updates
 
-abbrev pub with_procedure_of : Journal → Indicator → Option ℕ → Journal
-with_procedure_of J i (Some p) = J
-with_procedure_of J i None = J ++ declares i ∷ []
+-- a journal, and whether all that was to be added to it had room
+pub record Placed : Type 0 where
+  pub journal : Journal
+  pub fits : Bool
 
--- the procedure is declared, unless it is already
-abbrev pub with_procedure : Journal → Indicator → Journal
-with_procedure J i = with_procedure_of J i (number_of J i)
+abbrev pub placed_if : Bool → Journal → What → Placed
+placed_if true J what = record { journal = J ++ by_load what ∷ []; fits = true }
+placed_if false J what = record { journal = J; fits = false }
+
+-- an update is made where it has room
+abbrev pub placed : Sizes → Journal → What → Placed
+placed sizes J what = placed_if (has_room sizes J what) J what
+
+abbrev pub with_procedure_of : Sizes → Journal → Indicator → Option ℕ → Placed
+with_procedure_of sizes J i (Some p) = record { journal = J; fits = true }
+with_procedure_of sizes J i None = placed sizes J (Declare i Static)
+
+-- the procedure is declared static, unless it is declared already
+abbrev pub with_procedure : Sizes → Journal → Indicator → Placed
+with_procedure sizes J i = with_procedure_of sizes J i (number_of J i)
 
 -- the number of a procedure, or how many there are, which is that of the next
 abbrev pub number_or_next : Journal → Option ℕ → ℕ
 number_or_next J (Some p) = p
 number_or_next J None = length (procedures J)
 
--- a fact is added behind those of its procedure
-abbrev pub with_fact : Journal → Indicator → Tree → Journal
-with_fact J i t = with_procedure J i ++ adds (number_or_next J (number_of J i)) t ∷ []
+-- a second update is made where the first had room and it has, too
+abbrev pub placed_behind : Sizes → Placed → What → Placed
+placed_behind sizes first what = if first.fits then placed sizes first.journal what else first
+
+-- A fact is added behind those of its procedure, which is declared before it. What was declared stays where the fact has no room.
+abbrev pub with_fact : Sizes → Journal → Indicator → Tree → Placed
+with_fact sizes J i t = placed_behind sizes (with_procedure sizes J i) (Add Back (number_or_next J (number_of J i)) (fact t))
 
 -- ---- the load
 
--- the journal, and the read-term at which the load ends, if it is refused
+-- the call that raises the error where a fact has no room
+abbrev pub assertz : Indicator
+assertz = record { name = codes "assertz"; arity = 1 }
+
+-- the run of a fact in this line that has no room
+unfoldable pub unplaced : ℕ → Run
+unplaced line = record {
+  engine = 0;
+  line = line;
+  transcript = [];
+  fronts = [];
+  tally = record { looks = 0; scans = 0; kept = 0; wants = 0; visits = 0; built = 0; indexes = 0 };
+  steps = 0;
+  end = Ball (fault_tree (Resource (codes "database")) assertz);
+}
+
+-- a load so far: its journal and its runs
 pub record Loaded : Type 0 where
   pub journal : Journal
-  pub refused : Option Refusal
+  pub runs : List Run
 
-abbrev pub journal_after : Part → Journal → Journal
-journal_after (Fact i t) J = with_fact J i t
-journal_after (Refused r) J = J
-journal_after End J = J
+abbrev pub run_unless : Bool → ℕ → List Run
+run_unless true line = []
+run_unless false line = unplaced line ∷ []
 
--- a load goes on after a fact, and ends at anything else
-abbrev pub going_on : Part → Journal → Loaded → Loaded
-going_on (Fact i t) J later = later
-going_on (Refused r) J later = record { journal = J; refused = Some r }
-going_on End J later = record { journal = J; refused = None }
+-- what was placed, and a run of the fact's line where it had no room
+abbrev pub after_placing : ℕ → Loaded → Placed → Loaded
+after_placing line s p = record { journal = p.journal; runs = s.runs ++ run_unless p.fits line }
 
-abbrev pub part_in : Sentence → Part
-part_in s = part_of (answer_of initial_operators s)
+abbrev pub after_fact : Sizes → ℕ → Indicator → Tree → Loaded → Loaded
+after_fact sizes line i t s = after_placing line s (with_fact sizes s.journal i t)
+
+abbrev pub after_part : Sizes → Part → Loaded → Loaded
+after_part sizes (Fact line i t) s = after_fact sizes line i t s
+after_part sizes (Refused r) s = s
+after_part sizes End s = s
+
+-- a load goes on after a fact, with or without room, and ends at anything else
+abbrev pub going_on : Part → Loaded → Loaded → Loaded
+going_on (Fact line i t) s later = later
+going_on (Refused r) s later = s
+going_on End s later = s
 
 -- these read-terms, one after the other
-abbrev pub load : Journal → List Sentence → Loaded
-load J [] = record { journal = J; refused = None }
-load J (s ∷ ss) = going_on (part_in s) J (load (journal_after (part_in s) J) ss)
+abbrev pub load : Sizes → Loaded → List Sentence → Loaded
+load sizes s [] = s
+load sizes s (x ∷ xs) = going_on (part_in x) s (load sizes (after_part sizes (part_in x) s) xs)
 
--- the journal after a load of this text
-unfoldable pub journal_of : List ℕ → Journal
-journal_of text = (load [] (sentences (tokens text))).journal
+abbrev pub unloaded : Loaded
+unloaded = record { journal = []; runs = [] }
 
--- the read-term at which the load of this text ends, if it is refused
+-- a load of this text into an empty base of these sizes
+unfoldable pub load_of : Sizes → List ℕ → Loaded
+load_of sizes text = load sizes unloaded (sentences (tokens text))
+
+-- its journal
+abbrev pub journal_of : Sizes → List ℕ → Journal
+journal_of sizes text = (load_of sizes text).journal
+
+-- its runs, by engine 0: one for each fact that had no room, in order
+abbrev pub load_runs_of : Sizes → List ℕ → List Run
+load_runs_of sizes text = (load_of sizes text).runs
+
+-- ---- the refusal
+
+abbrev pub ending : Part → Option Refusal → Option Refusal
+ending (Fact line i t) later = later
+ending (Refused r) later = Some r
+ending End later = None
+
+-- the first of these read-terms that is no fact, if it is refused
+abbrev pub refused_in : List Sentence → Option Refusal
+refused_in [] = None
+refused_in (x ∷ xs) = ending (part_in x) (refused_in xs)
+
+-- the read-term at which the load of this text ends, if it is refused; that is so for all sizes
 unfoldable pub refusal_of : List ℕ → Option Refusal
-refusal_of text = (load [] (sentences (tokens text))).refused
+refusal_of text = refused_in (sentences (tokens text))

@@ -1,5 +1,5 @@
 -- The text of the runs.
-use Rattle.std.specs.Prelude.{ℕ, ◌+◌, List, [], ◌∷◌, ◌++◌, Bool, true, false, not, codes, if◌then◌else◌}
+use Rattle.std.specs.Prelude.{ℕ, ◌+◌, List, [], ◌∷◌, ◌++◌, Bool, true, false, not, ◌==◌, filter, codes, if◌then◌else◌}
 use Rattle.std.specs.List.{flat_map}
 use Rattle.std.specs.Fmt.{decimal}
 use Rattle.wam_machine.specs.declared.run.Event.{Event}
@@ -39,6 +39,25 @@ end_text events (Ball term) = codes "error: " ++ canonical term ++ codes "." ++ 
 end_text events (Spent n) = codes "stopped after " ++ decimal n ++ codes " steps." ++ newline
 end_text events Want = []
 
+-- ---- the load
+
+-- engine 0 is the load's
+abbrev pub is_of_load : Run → Bool
+is_of_load run = run.engine == 0
+
+abbrev pub is_of_goal : Run → Bool
+is_of_goal run = not (is_of_load run)
+
+-- the text of a run of the load: the line of its read-term, and its end
+unfoldable pub load_run_text : Run → List ℕ
+load_run_text run = codes "% line " ++ decimal run.line ++ codes ": " ++ end_text run.transcript run.end
+
+-- the text of the load, whose runs are those by engine 0 among these
+unfoldable pub load_text : List Run → List ℕ
+load_text runs = flat_map load_run_text (filter is_of_load runs)
+
+-- ---- goals
+
 -- the text of the run of the goal with this number
 unfoldable pub run_text : ℕ → Run → List ℕ
 run_text i run = codes "% goal " ++ decimal i ++ newline ++ events_text run.transcript ++ end_text run.transcript run.end
@@ -48,6 +67,8 @@ unfoldable pub runs_text : ℕ → List Run → List ℕ
 runs_text i [] = []
 runs_text i (run ∷ runs) = run_text i run ++ runs_text (i + 1) runs
 
--- the text of all runs, whose goals are counted from 1
+-- ---- all
+
+-- the text of all runs: that of the load, and then those of the goals, which are counted from 1
 unfoldable pub output_of : List Run → List ℕ
-output_of runs = runs_text 1 runs
+output_of runs = load_text runs ++ runs_text 1 (filter is_of_goal runs)

@@ -1,9 +1,9 @@
 -- The runs of a command, and the status that they give.
-use Rattle.std.specs.Prelude.{◌≡◌, ◌≢◌, ℕ, Bool, true, false, IsTrue, List, [], ◌∷◌, Option, Some, None, if◌then◌else◌}
+use Rattle.std.specs.Prelude.{◌≡◌, ◌≢◌, ℕ, ◌≤◌, Bool, true, false, IsTrue, List, [], ◌∷◌, ◌++◌, length, Option, Some, None, if◌then◌else◌}
 use Rattle.std.specs.List.{list_any}
 use Rattle.prolog_terms.specs.Tree.{Tree}
 use Rattle.journal_base.specs.Journal.{Journal}
-use Rattle.wam_machine.specs.Runs.{IsRunOf}
+use Rattle.wam_machine.specs.Runs.{IsTranscribed}
 use Rattle.wam_machine.specs.declared.run.Run.{Run}
 use Rattle.wam_machine.specs.declared.run.RunEnd.{RunEnd}
 use Rattle.wam_machine.specs.declared.run.RunEnd.TheVariants.{Exhausted, Ball, Spent, Want}
@@ -12,12 +12,16 @@ use Rattle.wam_machine.specs.declared.run.RunEnd.TheVariants.{Exhausted, Ball, S
 abbrev pub step_budget : ℕ
 step_budget = 10_000_000
 
--- these are one run, of the goal over the journal by engine 1 within the budget, for which memory sufficed
+-- These are one run, of the goal over the journal by engine 1 within the budget, for which memory sufficed. Each of its looks is a
+-- scan, since the base has no indexes.
 pub record IsOneRun (goal : Tree) (J : Journal) (budget : ℕ) (runs : List Run) : Type 0 where
   pub run : Run
   pub only : runs ≡ run ∷ []
-  pub is_run : IsRunOf 1 J goal budget run
+  pub engine : run.engine ≡ 1
+  pub line : run.line ≡ 0
+  pub within : run.steps ≤ budget
   pub ended : run.end ≢ Want
+  pub transcribed : IsTranscribed (record { engine = 1; journal = J; start = length J; budget = budget }) (0 ∷ []) goal run
 
 -- the runs of a command over a journal, within a budget: that of its goal, if it has one
 abbrev pub AreRunsWithin : ℕ → Option Tree → Journal → List Run → Type 0
@@ -26,6 +30,12 @@ AreRunsWithin budget (Some goal) J runs = IsOneRun goal J budget runs
 
 abbrev pub AreRuns : Option Tree → Journal → List Run → Type 0
 AreRuns = AreRunsWithin step_budget
+
+-- first these runs of a load, and then those of a command over its journal
+pub record AreRunsBehind (budget : ℕ) (loads : List Run) (command : Option Tree) (J : Journal) (runs : List Run) : Type 0 where
+  pub goals : List Run
+  pub in_order : runs ≡ loads ++ goals
+  pub of_command : AreRunsWithin budget command J goals
 
 abbrev pub is_ball : RunEnd → Bool
 is_ball Exhausted = false

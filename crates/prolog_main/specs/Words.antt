@@ -1,6 +1,7 @@
 -- The words of the command line.
-use Rattle.std.specs.Prelude.{ℕ, List, [], ◌∷◌, ◌++◌, Option, Some, None, map}
+use Rattle.std.specs.Prelude.{ℕ, List, [], ◌∷◌, ◌++◌, Option, Some, None, map, is_some, IsTrue}
 use Rattle.prolog_terms.specs.Tree.{Tree, variable, integer, atom, compound}
+use Rattle.prolog_terms.specs.Indicators.{indicator_of}
 use Rattle.prolog_terms.specs.Operators.{initial_operators}
 use Rattle.prolog_reader.specs.Streams.{tokens}
 use Rattle.prolog_reader.specs.Texts.{Answer, a_term, nothing, sentences, answer_of}
@@ -25,6 +26,9 @@ callable (variable n) = None
 callable (integer z) = None
 callable (atom a) = Some (atom a)
 callable (compound f ts) = Some (compound f ts)
+
+abbrev pub IsCallable : Tree → Type 0
+IsCallable t = IsTrue (is_some (indicator_of t))
 
 abbrev pub goal_in : Option Tree → Option Tree
 goal_in None = None

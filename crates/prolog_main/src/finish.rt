@@ -31,7 +31,10 @@ fn outcome_of(alloc: Global, status: u8, prepared: Prepared) -> Outcome
     let mut runs = Runs::new(alloc);
     match prepared {
         Prepared::BadWords | Prepared::SourceFailed | Prepared::TooLong => {}
-        Prepared::Refused(loaded, _) => journal = loaded,
+        Prepared::Refused(loaded, ran, _) => {
+            journal = loaded;
+            runs = ran;
+        }
         Prepared::Ran(loaded, ran) => {
             journal = loaded;
             runs = ran;

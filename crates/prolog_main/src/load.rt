@@ -1,26 +1,33 @@
 // The load of a text.
-ghost use Rattle.std.specs.Prelude.{◌≡◌, ◌++◌, ◌∷◌, [], Some, IfOk, OnOk, IsTrue, codes};
+ghost use Rattle.std.specs.Prelude.{◌≡◌, ◌++◌, Some, IfOk, OnOk, codes};
 ghost use Rattle.prolog_terms.specs.Tree.{atom};
+ghost use Rattle.prolog_terms.specs.Variables.{AreNumbered};
 ghost use Rattle.prolog_terms.specs.Indicators.{indicator_of};
 ghost use Rattle.prolog_terms.specs.Operators.{initial_operators};
-ghost use Rattle.journal_base.specs.Journal.{number_of};
-ghost use Rattle.wam_machine.specs.Facts.{is_ground};
-ghost use Rattle.prolog_main.specs.Load.{with_procedure, with_fact, journal_of, refusal_of};
+ghost use Rattle.journal_base.specs.View.{AreSizes};
+ghost use Rattle.prolog_main.specs.Load as the_load;
+ghost use Rattle.prolog_main.specs.Load.{journal_of, load_runs_of, refusal_of};
+ghost use Rattle.prolog_main.specs.Bases.{HasProcedure, HasFact};
 
+use crate::Runs;
 use crate::part::{Part, next_part};
 use crate::refusal::Refusal;
+use journal_base::{Added, Base, Declared, PlainBase, Sizes, Tally};
 use prolog_reader::Lexer;
-use prolog_terms::{Clause, Indicator, Name, Node, Ops, Term, Want};
+use prolog_terms::{Clause, End, Fault, Indicator, Kind, Name, Node, Ops, Term, Want, fault_term};
 use std::alloc::Global;
-use wam_machine::EntryList;
+use std::sync::Wait;
+use wam_machine::{Events, Fronts, Run, RunEnd};
 
 /// The engine of the load.
 const LOADER: u32 = 0;
 
-/// A text that is loaded: its journal, and the read-term at which the load ended, if it is refused.
+/// A text that is loaded: the base that holds its journal, its runs, and the read-term at which the load ended, if it is
+/// refused.
 #[derive(Drop)]
 pub struct Load {
-    pub list: EntryList,
+    pub base: PlainBase,
+    pub runs: Runs,
     pub refused: Option<Refusal>,
 }
 
@@ -36,63 +43,124 @@ fn true_term(alloc: Global) -> Result<Term, Want>
     }
 }
 
-/// The number of a procedure, which is declared if it isn't yet.
-fn procedure(list: &mut EntryList, indicator: &Indicator) -> Result<u32, Want>
-    requires { list.old.number ≡ 0 }
-    ensures list { OnOk result (list.new ≡ record { number = 0; journal = with_procedure list.old.journal indicator.now }) }
-    ensures number { IfOk result (λ p. number_of list.new.journal indicator.now ≡ Some p) }
+/// The number of a procedure, which is declared if it isn't yet; none where there is no room for that.
+fn procedure<R: Wait>(
+    rt: &R,
+    base: &mut PlainBase,
+    indicator: &Indicator,
+) -> Result<Option<u32>, Want>
+    requires { base.old.number ≡ 0 }
+    ensures { IfOk result (HasProcedure base.old base.new indicator.now) }
 {
-    match list.find(indicator) {
-        Some(number) => Ok(number),
-        None => list.declare(indicator),
+    if let Some((number, _)) = base.find(indicator) {
+        return Ok(Some(number));
+    }
+    match base.declare(rt, indicator, Kind::Static) {
+        Declared::Done(number) => Ok(Some(number)),
+        Declared::Already(number, _) => Ok(Some(number)),
+        Declared::Full { .. } => Ok(None),
+        Declared::Want => Err(Want),
     }
 }
 
-/// Adds a fact behind those of its procedure.
-fn add_fact(
+/// Adds a fact behind those of its procedure. The answer says whether there was room for it.
+fn add_fact<R: Wait>(
+    rt: &R,
     alloc: Global,
-    list: &mut EntryList,
+    base: &mut PlainBase,
     indicator: &Indicator,
     head: Term,
-) -> Result<(), Want>
-    requires load { list.old.number ≡ 0 }
+) -> Result<bool, Want>
+    requires load { base.old.number ≡ 0 }
     requires indicator { indicator_of head ≡ Some indicator.now }
-    requires ground { IsTrue (is_ground head) }
-    ensures { OnOk result (list.new ≡ record { number = 0; journal = with_fact list.old.journal indicator.now head }) }
+    requires numbered { AreNumbered head (atom (codes "true")) 0 }
+    ensures { IfOk result (HasFact base.old base.new indicator.now head) }
 {
     let body = true_term(alloc)?;
-    let procedure = procedure(list, indicator)?;
-    list.add(
-        procedure,
-        Clause {
-            head,
-            body,
-            vars: 0,
-        },
-    )
+    let procedure = match procedure(rt, base, indicator)? {
+        Some(procedure) => procedure,
+        None => return Ok(false),
+    };
+    let clause = Clause {
+        head,
+        body,
+        vars: 0,
+    };
+    match base.add(rt, End::Back, procedure, &clause) {
+        Added::Done(_) => Ok(true),
+        Added::Full { .. } => Ok(false),
+        Added::Want => Err(Want),
+    }
 }
 
-/// Adds the facts of a text up to the first read-term that is refused.
-#[tactic(auto, unfolding(crate::specs::Load::journal_of, crate::specs::Load::refusal_of))]
-pub fn load_text(alloc: Global, ops: &Ops, text: &[u8]) -> Result<Load, Want>
-    requires { ops.now ≡ initial_operators }
-    ensures list { IfOk result (λ load. load.list ≡ record { number = 0; journal = journal_of text.now }) }
+/// The run of a fact in this line for which there is no room: the error that `assertz/1` raises.
+#[tactic(auto, unfolding(crate::specs::Load::unplaced))]
+fn unplaced(alloc: Global, line: u64) -> Result<Run, Want>
+    ensures { IfOk result (λ run. run ≡ the_load.unplaced line) }
+{
+    let fault = Fault::Resource(Name::of(alloc, b"database")?);
+    let assertz = Indicator {
+        name: Name::of(alloc, b"assertz")?,
+        arity: 1,
+    };
+    let ball = fault_term(alloc, &fault, &assertz)?;
+    Ok(Run {
+        engine: LOADER,
+        line,
+        transcript: Events::of(Vec::new(alloc)),
+        fronts: Fronts::of(Vec::new(alloc)),
+        tally: Tally::new(),
+        steps: 0,
+        end: RunEnd::Ball(ball),
+    })
+}
+
+/// Adds a run of a fact in this line, unless there was room for it.
+fn add_run(alloc: Global, runs: &mut Runs, fits: bool, line: u64) -> Result<(), Want>
+    ensures { OnOk result (runs.new ≡ runs.old ++ the_load.run_unless fits line) }
+{
+    if fits {
+        return Ok(());
+    }
+    runs.push(unplaced(alloc, line)?)
+}
+
+/// Adds the facts of a text, to a base of these sizes, up to the first read-term that is refused. A fact for which there is
+/// no room has a run, and the load goes on.
+#[tactic(auto, unfolding(crate::specs::Load::load_of, crate::specs::Load::refusal_of))]
+pub fn load_text<R: Wait>(
+    rt: &R,
+    alloc: Global,
+    sizes: Sizes,
+    ops: &Ops,
+    text: &[u8],
+) -> Result<Load, Want>
+    requires sizes { AreSizes sizes.words sizes.updates }
+    requires ops { ops.now ≡ initial_operators }
+    ensures base { IfOk result (λ load. load.base ≡ record { number = 0; words = sizes.words; updates = sizes.updates; entries = journal_of sizes text.now; out = 0 }) }
+    ensures runs { IfOk result (λ load. load.runs ≡ load_runs_of sizes text.now) }
     ensures refused { IfOk result (λ load. load.refused ≡ refusal_of text.now) }
 {
     let mut lexer = Lexer::new(text);
-    let mut list = EntryList::new(alloc, LOADER);
+    let mut base = PlainBase::new(alloc, LOADER, sizes)?;
+    let mut runs = Runs::new(alloc);
     'parts: loop {
         match next_part(alloc, &mut lexer, ops)? {
-            Part::Fact(indicator, head) => add_fact(alloc, &mut list, &indicator, head)?,
+            Part::Fact(line, indicator, head) => {
+                let fits = add_fact(rt, alloc, &mut base, &indicator, head)?;
+                add_run(alloc, &mut runs, fits, line)?;
+            }
             Part::Refused(refusal) => {
                 return Ok(Load {
-                    list,
+                    base,
+                    runs,
                     refused: Some(refusal),
                 });
             }
             Part::End => {
                 return Ok(Load {
-                    list,
+                    base,
+                    runs,
                     refused: None,
                 });
             }

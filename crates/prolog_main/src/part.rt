@@ -9,14 +9,14 @@ ghost use Rattle.prolog_main.specs.Load as load;
 use crate::refusal::Refusal;
 use crate::reserved::is_reserved;
 use prolog_reader::{Lexer, Read, ReadTerm, read_term};
-use prolog_terms::{Indicator, Node, Ops, Term, Want};
+use prolog_terms::{Indicator, Ops, Term, Want, term_indicator};
 use std::alloc::Global;
 
 /// What a read-term is to a load.
 #[derive(Debug, Drop)]
 pub enum Part {
-    /// A fact, with its name and arity.
-    Fact(Indicator, Term),
+    /// A fact, with the line in which it begins, and its name and arity.
+    Fact(u64, Indicator, Term),
     Refused(Refusal),
     /// The end of the text.
     End,
@@ -25,29 +25,12 @@ pub enum Part {
 /// The number of the fault where a term is no fact.
 const NO_FACT: u8 = 7;
 
-/// The name and arity of an atom or a compound.
-fn indicator(term: &Term) -> Result<Option<Indicator>, Want>
-    ensures { IfOk result (λ i. i ≡ indicator_of term.now) }
-{
-    match term.nodes().first() {
-        Some(Node::Atom(name)) => Ok(Some(Indicator {
-            name: name.clone()?,
-            arity: 0,
-        })),
-        Some(Node::Functor(name, arity)) => Ok(Some(Indicator {
-            name: name.clone()?,
-            arity: *arity,
-        })),
-        _ => Ok(None),
-    }
-}
-
-fn part_of_term(read: ReadTerm) -> Result<Part, Want>
+fn part_of_term(alloc: Global, read: ReadTerm) -> Result<Part, Want>
     ensures { IfOk result (λ p. p ≡ load.part_of_term read.line read.term (indicator_of read.term)) }
 {
-    if let Some(indicator) = indicator(&read.term)? {
+    if let Some(indicator) = term_indicator(alloc, &read.term)? {
         if !is_reserved(&indicator) {
-            return Ok(Part::Fact(indicator, read.term));
+            return Ok(Part::Fact(read.line, indicator, read.term));
         }
     }
     Ok(Part::Refused(Refusal {
@@ -56,11 +39,11 @@ fn part_of_term(read: ReadTerm) -> Result<Part, Want>
     }))
 }
 
-fn part_of(read: Read) -> Result<Part, Want>
+fn part_of(alloc: Global, read: Read) -> Result<Part, Want>
     ensures { IfOk result (λ p. (a : Answer) → Says a read → p ≡ load.part_of a) }
 {
     match read {
-        Read::Term(read) => part_of_term(read),
+        Read::Term(read) => part_of_term(alloc, read),
         Read::Refused { line, fault } => Ok(Part::Refused(Refusal { line, fault })),
         Read::End => Ok(Part::End),
     }
@@ -73,5 +56,5 @@ pub fn next_part(alloc: Global, lexer: &mut Lexer, ops: &Ops) -> Result<Part, Wa
     ensures rest { IfOk result (λ _. ahead lexer.new ≡ (tail (ahead lexer.old)).rest) }
 {
     let read = read_term(alloc, lexer, ops)?;
-    part_of(read)
+    part_of(alloc, read)
 }

@@ -1,16 +1,17 @@
 // All that is done before the first byte is written.
 ghost use Rattle.std.specs.Prelude.{◌≡◌, ◌≤◌, IfOk, map, string_bytes};
+ghost use Rattle.journal_base.specs.View.{AreSizes};
 ghost use Rattle.prolog_main.specs.FaultCounts.{Rose};
 ghost use Rattle.prolog_main.specs.Words.{command_of};
 ghost use Rattle.prolog_main.specs.Prepared.{Prepares, status_before, text_before};
 
 use crate::load::load_text;
-use crate::refusal::{Refusal, refusal_text, text_of};
+use crate::refusal::{Refusal, text_of};
 use crate::run::{STEP_BUDGET, run_command, status_of_runs};
-use crate::texts::output;
+use crate::texts::{output, refused_text};
 use crate::words::command;
 use crate::{Runs, Source, Text, read_all};
-use journal_base::Gate;
+use journal_base::{Gate, Sizes};
 use prolog_terms::{Entries, Ops, Want};
 use std::alloc::Global;
 use std::sync::Wait;
@@ -21,7 +22,7 @@ pub enum Prepared {
     BadWords,
     SourceFailed,
     TooLong,
-    Refused(Entries, Refusal),
+    Refused(Entries, Runs, Refusal),
     Ran(Entries, Runs),
 }
 
@@ -30,10 +31,12 @@ pub fn prepare<R: Wait, S: Source, G: Gate>(
     rt: &R,
     alloc: Global,
     words: &[String],
+    sizes: Sizes,
     source: &mut S,
     gate: &G,
 ) -> Result<Prepared, Want>
-    ensures prepares { IfOk result (Prepares (command_of (map string_bytes words.now)) (S.left source.old) (S.left source.new)) }
+    requires { AreSizes sizes.words sizes.updates }
+    ensures prepares { IfOk result (Prepares sizes (command_of (map string_bytes words.now)) (S.left source.old) (S.left source.new)) }
     ensures later { S.faults source.old ≤ S.faults source.new }
     ensures failed { IfOk result (λ p. p ≡ Prepared.SourceFailed → Rose (S.faults source.old) (S.faults source.new)) }
 {
@@ -48,11 +51,11 @@ pub fn prepare<R: Wait, S: Source, G: Gate>(
         Text::Failed => return Ok(Prepared::SourceFailed),
         Text::Want => return Err(Want),
     };
-    let loaded = load_text(alloc, &ops, &text)?;
-    if let Some(refusal) = loaded.refused {
-        return Ok(Prepared::Refused(loaded.list.into_entries(), refusal));
+    let load = load_text(rt, alloc, sizes, &ops, &text)?;
+    if let Some(refusal) = load.refused {
+        return Ok(Prepared::Refused(load.base.into_entries(), load.runs, refusal));
     }
-    let ran = run_command(rt, alloc, gate, command, STEP_BUDGET, loaded.list, ops)?;
+    let ran = run_command(rt, alloc, gate, command, STEP_BUDGET, load, ops)?;
     Ok(Prepared::Ran(ran.journal, ran.runs))
 }
 
@@ -64,7 +67,7 @@ pub fn status_of_prepared(prepared: &Prepared) -> u8
         Prepared::BadWords => 2,
         Prepared::SourceFailed => 4,
         Prepared::TooLong => 8,
-        Prepared::Refused(_, _) => 3,
+        Prepared::Refused(_, _, _) => 3,
         Prepared::Ran(_, runs) => status_of_runs(runs.items()),
     }
 }
@@ -78,7 +81,7 @@ pub fn text_of_prepared(alloc: Global, prepared: &Prepared) -> Result<Vec<u8>, W
         Prepared::BadWords => text_of(alloc, "error: bad words.\n"),
         Prepared::SourceFailed => text_of(alloc, "error: source.\n"),
         Prepared::TooLong => text_of(alloc, "error: text too long.\n"),
-        Prepared::Refused(_, refusal) => refusal_text(alloc, *refusal),
+        Prepared::Refused(_, runs, refusal) => refused_text(alloc, runs.items(), *refusal),
         Prepared::Ran(_, runs) => output(alloc, runs.items()),
     }
 }

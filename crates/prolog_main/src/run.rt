@@ -1,15 +1,16 @@
 // The run of a command's goal, and the status that runs give.
 ghost use Rattle.std.specs.Prelude.{◌≡◌, ◌≤◌, ◌^◌, ◌↔◌, IfOk, IfSome, IsTrue};
 ghost use Rattle.std.specs.List.{list_any};
-ghost use Rattle.wam_machine.specs.Facts.{IsCallable};
-ghost use Rattle.prolog_main.specs.Runs.{AreRunsWithin, ends_in_ball, ends_spent, status_of};
+ghost use Rattle.prolog_main.specs.Words.{IsCallable};
+ghost use Rattle.prolog_main.specs.Runs.{AreRunsBehind, ends_in_ball, ends_spent, status_of};
 
+use crate::load::Load;
 use crate::runs::Runs;
-use journal_base::Gate;
+use journal_base::{Gate, PlainBase};
 use prolog_terms::{Entries, Ops, Term, Want};
 use std::alloc::Global;
 use std::sync::Wait;
-use wam_machine::{Engine, EntryList, Goal, Run, RunEnd};
+use wam_machine::{Engine, Goal, Run, RunEnd};
 
 /// The engine of the first goal.
 const FIRST: u32 = 1;
@@ -17,38 +18,44 @@ const FIRST: u32 = 1;
 /// The most steps of a run.
 pub const STEP_BUDGET: u64 = 10_000_000;
 
-/// What a command's goal gave, and the journal over which it ran.
+/// The journal of a load, and its runs with that of the command's goal behind them.
 #[derive(Drop)]
 pub struct Ran {
     pub journal: Entries,
     pub runs: Runs,
 }
 
-/// Runs the command's goal over the journal of this list, if it has one, in so many steps at most.
+/// Runs the command's goal over the journal of a load, if it has one, in so many steps at most.
 pub fn run_command<R: Wait, G: Gate>(
     rt: &R,
     alloc: Global,
     gate: &G,
     command: Option<Term>,
     budget: u64,
-    list: EntryList,
+    load: Load,
     ops: Ops,
 ) -> Result<Ran, Want>
     requires goal { IfSome command IsCallable }
     requires budget { (1 ≤ budget) × (budget ≤ 10 ^ 11) }
-    ensures journal { IfOk result (λ ran. ran.journal ≡ list.journal) }
-    ensures runs { IfOk result (λ ran. AreRunsWithin budget command list.journal ran.runs) }
+    requires out { load.base.out ≡ 0 }
+    ensures journal { IfOk result (λ ran. ran.journal ≡ load.base.entries) }
+    ensures runs { IfOk result (λ ran. AreRunsBehind budget load.runs command load.base.entries ran.runs) }
 {
+    let Load {
+        base,
+        mut runs,
+        refused: _,
+    } = load;
     let term = match command {
         Some(term) => term,
         None => {
             return Ok(Ran {
-                journal: list.into_entries(),
-                runs: Runs::new(alloc),
+                journal: base.into_entries(),
+                runs,
             });
         }
     };
-    let mut engine = match Engine::new(alloc, list.renumbered(FIRST), ops) {
+    let mut engine = match Engine::new(alloc, base.renumbered(FIRST), ops) {
         Ok(engine) => engine,
         Err(_) => return Err(Want),
     };
@@ -56,9 +63,10 @@ pub fn run_command<R: Wait, G: Gate>(
     if wants(&run) {
         return Err(Want);
     }
+    runs.push(run)?;
     Ok(Ran {
         journal: engine.into_base().into_entries(),
-        runs: Runs::of(alloc, run)?,
+        runs,
     })
 }
 

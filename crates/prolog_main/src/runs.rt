@@ -1,12 +1,12 @@
-// The runs of a command.
-ghost use Rattle.std.specs.Prelude.{◌≡◌, ◌∷◌, [], IfOk};
+// The runs of a load and of a command.
+ghost use Rattle.std.specs.Prelude.{◌≡◌, ◌++◌, ◌∷◌, [], OnOk};
 
 use prolog_terms::Want;
 use std::alloc::Global;
 use std::marker::Model;
 use wam_machine::Run;
 
-/// The runs of the goals, in order.
+/// The runs of the load, which are engine 0's, and those of the goals, in order.
 #[derive(Debug, Drop)]
 pub struct Runs {
     items: Vec<Run>,
@@ -35,13 +35,12 @@ impl Runs {
         }
     }
 
-    /// One run.
-    pub fn of(alloc: Global, run: Run) -> Result<Runs, Want>
-        ensures { IfOk result (λ runs. runs ≡ run ∷ []) }
+    /// One run more, at the end.
+    pub fn push(&mut self, run: Run) -> Result<(), Want>
+        ensures { OnOk result (self.new ≡ self.old ++ run ∷ []) }
     {
-        let mut items = Vec::new(alloc);
-        items.push(run)?;
-        Ok(Runs { items })
+        self.items.push(run)?;
+        Ok(())
     }
 
     /// The runs.

@@ -1,16 +1,16 @@
 // The whole program: words and text in, status and text out.
-ghost use Rattle.std.specs.Prelude.{◌≡◌, ◌≤◌, ◌<◌, ◌⊎◌, ◌^◌, [], length, map, string_bytes, Some, None, IsSome, IsNone, IfSome, Any, All};
+ghost use Rattle.std.specs.Prelude.{◌≡◌, ◌≤◌, ◌<◌, ◌⊎◌, ◌^◌, [], ◌++◌, length, map, string_bytes, Some, None, IsSome, IsNone, IfSome, Any, All};
 ghost use Rattle.std.specs.Io.KnownBytes.{Appends, IsAtEnd, Keeps};
 ghost use Rattle.journal_base.specs.Legal.{Legal};
 ghost use Rattle.prolog_main.specs.FaultCounts.{Rose};
 ghost use Rattle.prolog_main.specs.WholeText.{max_text};
 ghost use Rattle.prolog_main.specs.Sinks.{AppendsPrefix};
-ghost use Rattle.prolog_main.specs.Load.{journal_of, refusal_of};
+ghost use Rattle.prolog_main.specs.Load.{journal_of, load_runs_of, refusal_of};
 ghost use Rattle.prolog_main.specs.Words.{command_of};
-ghost use Rattle.prolog_main.specs.Runs.{AreRuns, EndsInBall, EndsSpent};
+ghost use Rattle.prolog_main.specs.Runs.{step_budget, AreRunsBehind, EndsInBall, EndsSpent};
 ghost use Rattle.prolog_main.specs.Errors.{bad_words_text, source_text, too_long_text, refusal_text};
-ghost use Rattle.prolog_main.specs.Output.{output_of};
-ghost use Rattle.prolog_main.specs.Headline.{IsRun, HasRuns, IsLoaded, IsEmpty, IsStatus, expected, Ends, IsTooLong, HasLoaded, HasRefused, Gains, HasBegun};
+ghost use Rattle.prolog_main.specs.Output.{load_text, output_of};
+ghost use Rattle.prolog_main.specs.Headline.{IsRun, HasRuns, IsLoaded, IsEmpty, IsStatus, expected, Ends, IsTooLong, HasRun, HasRefused, Gains, HasBegun};
 
 use crate::finish::{Outcome, finish};
 use crate::prepare::prepare;
@@ -20,10 +20,10 @@ use std::alloc::Global;
 use std::sync::Wait;
 use std::thread::Threads;
 
-/// Reads the whole source, loads its facts, runs the goal of the words and writes the answers. The status is 0, 1 or 7
-/// after a run (7 where it has spent its budget, 1 where it ends in a ball), and else the number of what went wrong:
-/// 2 bad words, 3 a read-term that is refused, 4 the source failed, 5 the sink failed, 6 memory was wanted, 8 the text
-/// is too long.
+/// Reads the whole source, loads its facts into a base of these sizes, runs the goal of the words and writes the answers. A
+/// fact for which the base has no room has a run of its own, and the load goes on. The status is 0, 1 or 7 after the runs
+/// (1 where one ends in a ball, else 7 where one has spent its budget), and else the number of what went wrong: 2 bad words,
+/// 3 a read-term that is refused, 4 the source failed, 5 the sink failed, 6 memory was wanted, 8 the text is too long.
 pub fn top<R: Threads + Wait + Sync, S: Source, K: Sink, G: Gate + Sync>(
     rt: &R,
     alloc: Global,
@@ -51,14 +51,15 @@ pub fn top<R: Threads + Wait + Sync, S: Source, K: Sink, G: Gate + Sync>(
     ensures complete { IfSome (S.left source.old) (λ text. Ends (expected (command_of (map string_bytes words.now)) text result.runs)
         (Rose (S.faults source.old) (S.faults source.new)) (Rose (K.faults sink.old) (K.faults sink.new)) result.status) }
 
-    // The outcome is the load's, and the goal's run over it.
-    ensures journal { IsLoaded result.status → IfSome (S.left source.old) (λ text. result.journal ≡ journal_of text) }
-    ensures loaded { HasRuns result.status → HasLoaded (S.left source.old) (S.left source.new) result.journal None }
-    ensures loaded_in_part { result.status ≡ 3 → HasRefused (S.left source.old) (S.left source.new) result.journal
+    // The journal is the load's, and the runs are the load's, with the goal's run over that journal behind them.
+    ensures journal { IsLoaded result.status → IfSome (S.left source.old) (λ text. result.journal ≡ journal_of sizes text) }
+    ensures loaded { HasRuns result.status → HasRun sizes (command_of (map string_bytes words.now)) (S.left source.old) (S.left source.new) result.journal result.runs }
+    ensures loaded_in_part { result.status ≡ 3 → HasRefused sizes (S.left source.old) (S.left source.new) result.journal result.runs
         (Rose (K.faults sink.old) (K.faults sink.new)) (K.written sink.old) (K.written sink.new) }
-    ensures legal { IsLoaded result.status → Legal result.journal }
-    ensures runs { HasRuns result.status → IfSome (command_of (map string_bytes words.now)) (λ command. AreRuns command result.journal result.runs) }
-    ensures no_runs { result.status ≡ 3 → result.runs ≡ [] }
+    ensures legal { IsLoaded result.status → Legal sizes.words sizes.updates result.journal }
+    ensures runs { HasRuns result.status → IfSome (S.left source.old) (λ text. IfSome (command_of (map string_bytes words.now)) (λ command.
+        AreRunsBehind step_budget (load_runs_of sizes text) command result.journal result.runs)) }
+    ensures load_runs { result.status ≡ 3 → IfSome (S.left source.old) (λ text. result.runs ≡ load_runs_of sizes text) }
     ensures empty_journal { IsEmpty result.status → result.journal ≡ [] }
     ensures empty_runs { IsEmpty result.status → result.runs ≡ [] }
 
@@ -69,9 +70,9 @@ pub fn top<R: Threads + Wait + Sync, S: Source, K: Sink, G: Gate + Sync>(
     ensures source_text { result.status ≡ 4 → Gains (Rose (K.faults sink.old) (K.faults sink.new)) (K.written sink.old) (K.written sink.new) source_text }
     ensures too_long_text { result.status ≡ 8 → Gains (Rose (K.faults sink.old) (K.faults sink.new)) (K.written sink.old) (K.written sink.new) too_long_text }
     ensures refusal_text { result.status ≡ 3 → IfSome (S.left source.old) (λ text. IfSome (refusal_of text) (λ refusal.
-        Gains (Rose (K.faults sink.old) (K.faults sink.new)) (K.written sink.old) (K.written sink.new) (refusal_text refusal))) }
+        Gains (Rose (K.faults sink.old) (K.faults sink.new)) (K.written sink.old) (K.written sink.new) (load_text result.runs ++ refusal_text refusal))) }
     ensures wanted { result.status ≡ 6 → Appends (K.written sink.old) (K.written sink.new) []
-        ⊎ HasBegun (command_of (map string_bytes words.now)) (Rose (S.faults source.old) (S.faults source.new))
+        ⊎ HasBegun sizes (command_of (map string_bytes words.now)) (Rose (S.faults source.old) (S.faults source.new))
         (S.left source.old) (S.left source.new) (K.written sink.old) (K.written sink.new) }
 
     // What is left of the source, and the counts.
@@ -84,6 +85,6 @@ pub fn top<R: Threads + Wait + Sync, S: Source, K: Sink, G: Gate + Sync>(
     // There is no other status.
     ensures statuses { IsStatus result.status }
 {
-    let prepared = prepare(rt, alloc, words, source, gate);
+    let prepared = prepare(rt, alloc, words, sizes, source, gate);
     finish(alloc, sink, prepared)
 }

@@ -78,6 +78,26 @@ const RUNS: [Row; 10] = [
     ),
 ];
 
+/// The status of a call of `top` with these words, over a base of these sizes.
+fn status_in<R: Threads + Wait + Sync, S: Source, K: Sink>(
+    rt: &R,
+    alloc: Global,
+    sizes: Sizes,
+    words: &[&str],
+    source: &mut S,
+    sink: &mut K,
+) -> Result<u8, Want>
+    requires words { (1 ≤ sizes.words) × (sizes.words ≤ 2 ^ 30) }
+    requires updates { (1 ≤ sizes.updates) × (sizes.updates < 2 ^ 24) }
+{
+    let mut strings = Vec::new(alloc);
+    for word in words {
+        strings.push(String::from_str(alloc, word)?)?;
+    }
+    let outcome = top(rt, alloc, &strings, sizes, source, sink, &OpenGate);
+    Ok(outcome.status)
+}
+
 /// The status of a call of `top` with these words.
 fn status<R: Threads + Wait + Sync, S: Source, K: Sink>(
     rt: &R,
@@ -86,12 +106,25 @@ fn status<R: Threads + Wait + Sync, S: Source, K: Sink>(
     source: &mut S,
     sink: &mut K,
 ) -> Result<u8, Want> {
-    let mut strings = Vec::new(alloc);
-    for word in words {
-        strings.push(String::from_str(alloc, word)?)?;
-    }
-    let outcome = top(rt, alloc, &strings, SIZES, source, sink, &OpenGate);
-    Ok(outcome.status)
+    status_in(rt, alloc, SIZES, words, source, sink)
+}
+
+/// Whether `top` answers as the row says over a base of these sizes, where source and sink take so many bytes a call.
+fn is_answered_in<R: Threads + Wait + Sync>(
+    rt: &R,
+    alloc: Global,
+    sizes: Sizes,
+    row: &Row,
+    step: usize,
+) -> Result<bool, Want>
+    requires words { (1 ≤ sizes.words) × (sizes.words ≤ 2 ^ 30) }
+    requires updates { (1 ≤ sizes.updates) × (sizes.updates < 2 ^ 24) }
+    requires step { 0 < step }
+{
+    let mut source = SteadySource::new(Vec::from_slice(alloc, row.0.as_bytes())?, step);
+    let mut sink = SteadySink::new(alloc, step)?;
+    let found = status_in(rt, alloc, sizes, row.1, &mut source, &mut sink)?;
+    Ok(found == row.2 && sink.bytes() == row.3.as_bytes())
 }
 
 /// Whether `top` answers as the row says, where source and sink take so many bytes a call.
@@ -103,10 +136,7 @@ fn is_answered<R: Threads + Wait + Sync>(
 ) -> Result<bool, Want>
     requires { 0 < step }
 {
-    let mut source = SteadySource::new(Vec::from_slice(alloc, row.0.as_bytes())?, step);
-    let mut sink = SteadySink::new(alloc, step)?;
-    let found = status(rt, alloc, row.1, &mut source, &mut sink)?;
-    Ok(found == row.2 && sink.bytes() == row.3.as_bytes())
+    is_answered_in(rt, alloc, SIZES, row, step)
 }
 
 #[test]
@@ -134,6 +164,160 @@ fn answers_the_runs(rt: HostRuntime) {
                 row.0
             );
         }
+    }
+}
+
+// A declaration needs 16 words, and one for a name of up to 8 bytes: 17 for `p/1` and for `q/1`. The fact `p(a)` needs 4
+// words for its entry and 2 for its clause, 1 for the key at its argument, 2 for each of its two nodes (one of them for the
+// name) and 2 for the body `true`: 13. The fact `p(ccccccccc)`, whose argument has 9 bytes, needs 14.
+
+/// So many words, and what a text leads to there.
+type WordsRow = (u64, Row);
+
+const FACTS: &str = "p(a).\np(b).\np(ccccccccc).\np(d).\n";
+
+const TWO_PROCEDURES: &str = "p(a).\nq(a).\n";
+
+const SMALL_WORDS: [WordsRow; 9] = [
+    // 17 + 13 + 13 = 43 words are used where the third fact needs 14 more, which is one too many; the fourth needs 13.
+    (
+        56,
+        (
+            FACTS,
+            &["p(d)"],
+            1,
+            "% line 3: error: error(resource_error(database),/(assertz,1)).\n% goal 1\ntrue.\n",
+        ),
+    ),
+    (
+        56,
+        (
+            FACTS,
+            &["p(ccccccccc)"],
+            1,
+            "% line 3: error: error(resource_error(database),/(assertz,1)).\n% goal 1\nfalse.\n",
+        ),
+    ),
+    (
+        56,
+        (
+            FACTS,
+            &[],
+            1,
+            "% line 3: error: error(resource_error(database),/(assertz,1)).\n",
+        ),
+    ),
+    // With one word more the third fact fits, and nothing is left for the fourth.
+    (
+        57,
+        (
+            FACTS,
+            &[],
+            1,
+            "% line 4: error: error(resource_error(database),/(assertz,1)).\n",
+        ),
+    ),
+    // All that there is: 17 + 13 + 13 + 14 + 13.
+    (70, (FACTS, &[], 0, "")),
+    // 17 + 13 + 17 = 47 words are used where `q(a)` needs 13 more: `q/1` stays declared.
+    (
+        59,
+        (
+            TWO_PROCEDURES,
+            &["q(a)"],
+            1,
+            "% line 2: error: error(resource_error(database),/(assertz,1)).\n% goal 1\nfalse.\n",
+        ),
+    ),
+    // 17 + 13 = 30 words are used where `q/1` needs 17 more: it isn't declared.
+    (
+        46,
+        (
+            TWO_PROCEDURES,
+            &["q(a)"],
+            1,
+            "% line 2: error: error(resource_error(database),/(assertz,1)).\n\
+                % goal 1\nerror: error(existence_error(procedure,/(q,1)),/(q,1)).\n",
+        ),
+    ),
+    (60, (TWO_PROCEDURES, &["q(a)"], 0, "% goal 1\ntrue.\n")),
+    (
+        1,
+        (
+            "a.\n\nb.\n3.\n",
+            &["true"],
+            3,
+            "% line 1: error: error(resource_error(database),/(assertz,1)).\n\
+                % line 3: error: error(resource_error(database),/(assertz,1)).\n\
+                error: line 4: fault 7.\n",
+        ),
+    ),
+];
+
+// The declaration of `p/1` and its first fact are two updates.
+const TWO_UPDATES: [Row; 4] = [
+    ("p(a).\n", &[], 0, ""),
+    (
+        "p(a).\np(b).\nq.\n",
+        &["p(a)"],
+        1,
+        "% line 2: error: error(resource_error(database),/(assertz,1)).\n\
+            % line 3: error: error(resource_error(database),/(assertz,1)).\n\
+            % goal 1\ntrue.\n",
+    ),
+    (
+        "p(a).\np(b).\n",
+        &[],
+        1,
+        "% line 2: error: error(resource_error(database),/(assertz,1)).\n",
+    ),
+    (
+        "p(a).\np(b).\n3.\nq.\n",
+        &["p(a)"],
+        3,
+        "% line 2: error: error(resource_error(database),/(assertz,1)).\n\
+            error: line 3: fault 7.\n",
+    ),
+];
+
+fn is_answered_in_words<R: Threads + Wait + Sync>(
+    rt: &R,
+    alloc: Global,
+    row: &WordsRow,
+) -> Result<bool, Want> {
+    let sizes = Sizes {
+        words: row.0.clamp(1, 1000),
+        updates: 1000,
+    };
+    is_answered_in(rt, alloc, sizes, &row.1, 7)
+}
+
+#[test]
+fn loads_into_few_words(rt: HostRuntime) {
+    for row in &SMALL_WORDS {
+        assert_eq!(rt;
+            is_answered_in_words(&rt, rt.alloc(), row),
+            Ok(true),
+            "{} words: {}",
+            row.0,
+            row.1.0
+        );
+    }
+}
+
+#[test]
+fn loads_into_two_updates(rt: HostRuntime) {
+    let sizes = Sizes {
+        words: 1000,
+        updates: 2,
+    };
+    for row in &TWO_UPDATES {
+        assert_eq!(rt;
+            is_answered_in(&rt, rt.alloc(), sizes, row, 7),
+            Ok(true),
+            "{}",
+            row.0
+        );
     }
 }
 
@@ -232,8 +416,8 @@ fn run_within<R: Wait, G: Gate>(
         Some(goal) => goal,
         None => return Err(Want),
     };
-    let loaded = load_text(alloc, &ops, b"p(a). p(a).")?;
-    let ran = run_command(rt, alloc, gate, goal, budget, loaded.list, ops)?;
+    let load = load_text(rt, alloc, SIZES, &ops, b"p(a). p(a).")?;
+    let ran = run_command(rt, alloc, gate, goal, budget, load, ops)?;
     output(alloc, ran.runs.items())
 }
 

@@ -143,6 +143,7 @@ fn run_of(alloc: Global, lefts: &[bool], end: RunEnd) -> Result<Run, Want> {
     }
     Ok(Run {
         engine: 1,
+        line: 0,
         transcript: Events::of(events),
         fronts: Fronts::of(Vec::new(alloc)),
         tally: Tally::new(),
@@ -171,6 +172,35 @@ fn writes_runs(rt: HostRuntime) -> Result<(), Fail> {
         % goal 4\ntrue ;\nerror: oops(_2).\n\
         % goal 5\nstopped after 7 steps.\n\
         % goal 6\ntrue.\n";
+    assert!(rt; text.as_slice() == words.as_bytes());
+    Ok(())
+}
+
+// The run of a read-term of the load in this line.
+fn load_run_of(alloc: Global, line: u64, ball: Term) -> Result<Run, Want> {
+    let none: [bool; 0] = [];
+    let mut run = run_of(alloc, &none, RunEnd::Ball(ball))?;
+    run.engine = 0;
+    run.line = line;
+    Ok(run)
+}
+
+#[test]
+fn writes_the_load_first(rt: HostRuntime) -> Result<(), Fail> {
+    let alloc = rt.alloc();
+    let small = term_of(alloc, &[Piece::Int(-5)])?;
+    let nested = term_of(alloc, &[Piece::Functor("oops", 1), Piece::Var(1)])?;
+    let none: [bool; 0] = [];
+    let mut runs = Vec::new(alloc);
+    runs.push(load_run_of(alloc, 1, small)?)?;
+    runs.push(run_of(alloc, &none, RunEnd::Exhausted)?)?;
+    runs.push(load_run_of(alloc, 300, nested)?)?;
+    runs.push(run_of(alloc, &[false], RunEnd::Exhausted)?)?;
+    let text = output(alloc, &runs)?;
+    let words = "% line 1: error: -5.\n\
+        % line 300: error: oops(_2).\n\
+        % goal 1\nfalse.\n\
+        % goal 2\ntrue.\n";
     assert!(rt; text.as_slice() == words.as_bytes());
     Ok(())
 }

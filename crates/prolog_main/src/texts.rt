@@ -1,8 +1,10 @@
 // What the program writes.
-ghost use Rattle.std.specs.Prelude.{◌≡◌, ◌++◌, OnOk, IfOk};
-ghost use Rattle.prolog_main.specs.Output.{event_text, events_text, closes, is_closed, end_text, run_text, output_of};
+ghost use Rattle.std.specs.Prelude.{◌≡◌, ◌++◌, filter, OnOk, IfOk};
+ghost use Rattle.prolog_main.specs.Errors as errors;
+ghost use Rattle.prolog_main.specs.Output.{event_text, events_text, closes, is_closed, end_text, is_of_load, is_of_goal, load_run_text, load_text, run_text, runs_text, output_of};
 
 use crate::canonical::{put, put_number, put_term};
+use crate::refusal::{Refusal, put_refusal};
 use prolog_terms::Want;
 use std::alloc::Global;
 use wam_machine::{Event, Run, RunEnd};
@@ -78,14 +80,68 @@ fn put_run(text: &mut Vec<u8>, alloc: Global, number: usize, run: &Run) -> Resul
     put_end(text, alloc, run.transcript.items(), &run.end)
 }
 
-/// The text of the runs: for each a heading with its number, counted from 1, a line for each answer, and its end.
-#[tactic(auto, unfolding(crate::specs::Output::output_of, crate::specs::Output::runs_text))]
+fn is_of_load(run: &Run) -> bool
+    ensures { result ≡ is_of_load run.now }
+{
+    run.engine == 0
+}
+
+#[tactic(auto, unfolding(crate::specs::Output::load_run_text))]
+fn put_load_run(text: &mut Vec<u8>, alloc: Global, run: &Run) -> Result<(), Want>
+    ensures { OnOk result (text.new.items ≡ text.old.items ++ load_run_text run.now) }
+{
+    put(text, "% line ")?;
+    put_number(text, run.line.into())?;
+    put(text, ": ")?;
+    put_end(text, alloc, run.transcript.items(), &run.end)
+}
+
+// Puts the text of the runs of the load among these.
+#[tactic(auto, unfolding(crate::specs::Output::load_text))]
+fn put_load(text: &mut Vec<u8>, alloc: Global, runs: &[Run]) -> Result<(), Want>
+    ensures { OnOk result (text.new.items ≡ text.old.items ++ load_text runs.now) }
+{
+    for run in runs {
+        if is_of_load(run) {
+            put_load_run(text, alloc, run)?;
+        }
+    }
+    Ok(())
+}
+
+// Puts the texts of the runs of goals among these.
+#[tactic(auto, unfolding(crate::specs::Output::runs_text))]
+fn put_goals(text: &mut Vec<u8>, alloc: Global, runs: &[Run]) -> Result<(), Want>
+    ensures { OnOk result (text.new.items ≡ text.old.items ++ runs_text 1 (filter is_of_goal runs.now)) }
+{
+    let mut goals = 0;
+    for run in runs {
+        if !is_of_load(run) {
+            goals += 1;
+            put_run(text, alloc, goals, run)?;
+        }
+    }
+    Ok(())
+}
+
+/// The text of the load and of a refusal behind it.
+pub fn refused_text(alloc: Global, runs: &[Run], refusal: Refusal) -> Result<Vec<u8>, Want>
+    ensures { IfOk result (λ text. text.items ≡ load_text runs.now ++ errors.refusal_text refusal) }
+{
+    let mut text = Vec::new(alloc);
+    put_load(&mut text, alloc, runs)?;
+    put_refusal(&mut text, refusal)?;
+    Ok(text)
+}
+
+/// The text of all runs: for each of the load its line and its end, and then for each goal a heading with its number,
+/// counted from 1, a line for each answer, and its end.
+#[tactic(auto, unfolding(crate::specs::Output::output_of))]
 pub fn output(alloc: Global, runs: &[Run]) -> Result<Vec<u8>, Want>
     ensures { IfOk result (λ text. text.items ≡ output_of runs.now) }
 {
     let mut text = Vec::new(alloc);
-    for (i, run) in runs.iter().enumerate() {
-        put_run(&mut text, alloc, i + 1, run)?;
-    }
+    put_load(&mut text, alloc, runs)?;
+    put_goals(&mut text, alloc, runs)?;
     Ok(text)
 }

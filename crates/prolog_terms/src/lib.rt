@@ -4,9 +4,11 @@
 //! (`specs/Tree.antt`). No call here recurses on a term, so no depth is too great.
 #![tactic(auto)]
 
+mod bytes;
 mod entry;
 mod fault;
 mod name;
+mod names;
 mod node;
 mod ops;
 mod term;
@@ -15,12 +17,14 @@ mod tests;
 mod want;
 mod whole;
 
+pub use bytes::Bytes;
 pub use entry::{
     Clause, End, Entries, Entry, Indicator, Kind, What, copy_clause, copy_entry, copy_indicator,
     term_indicator,
 };
 pub use fault::{Fault, fault_term};
 pub use name::Name;
+pub use names::Names;
 pub use node::Node;
 pub use ops::{OpKind, Operator, Ops};
 pub use term::Term;

@@ -1,5 +1,5 @@
 -- A goal has one transcript at most, and its steps are within the budget.
-use Rattle.std.proofs.Common.{◌≡◌, ℕ, suc, ◌≤◌, List, [], ◌∷◌, Bool, true, false, refl, sym, ◌∙◌, subst, arith, inl, inr}
+use Rattle.std.proofs.Common.{◌≡◌, ℕ, suc, ◌+◌, ◌≤◌, List, [], ◌∷◌, Bool, true, false, refl, sym, ◌∙◌, subst, arith, inl, inr}
 use Rattle.std.specs.Prelude.{◌++◌, ◌==◌, ◌≢◌, ◌⊎◌, ◌&&◌, nat_le, if◌then◌else◌, Option, Some, None, take, length}
 use Rattle.std.proofs.lemmas.Bool.Decides.{eqb_tells}
 use Rattle.prolog_terms.specs.Tree.{Tree}
@@ -10,7 +10,7 @@ use Rattle.journal_base.specs.Keys.{keys}
 use Rattle.wam_machine.specs.Trees.{same_tree}
 use Rattle.wam_machine.specs.declared.run.RunEnd.{RunEnd}
 use Rattle.wam_machine.specs.declared.run.RunEnd.TheVariants.{Exhausted, Ball, Spent}
-use Rattle.wam_machine.specs.Machine.{Control, True, User, control_of, body_goals, Alternative, Clauses, Choice, Mode, Going, Failing, Raising, State, Setting, Report, Outcome, Goes, Ends, Unfit, no_more, over, stepping, taking, fails, matching, leaving, trying, candidate_clauses, looked, called, calling, performing, goal_move, going, taken, failing, move, Runs, ends, goes, beginning, Transcript}
+use Rattle.wam_machine.specs.Machine.{Control, True, User, control_of, body_goals, Alternative, Clauses, Choice, Mode, Going, Failing, Raising, State, Setting, Report, Outcome, Goes, Ends, Unfit, no_more, made_all, over, stepping, fails, matching, leaving, trying, candidate_clauses, looked, called, calling, performing, goal_move, going, taken, failing, move, Runs, ends, goes}
 
 -- ---- one transcript
 
@@ -47,11 +47,11 @@ kept_within budget n (Goes t) le k = rw k le
 kept_within budget n (Ends r) le k = rw k le
 kept_within budget n Unfit le k = tt
 
-over-keeps : (s : State) (end : RunEnd) → Keeps s.steps (over s end)
+over-keeps : (x : Setting) (s : State) (end : RunEnd) → Keeps s.steps (over x s end)
 unfolding Keeps
-over-keeps s end = go (no_more s.fronts)
+over-keeps x s end = go (no_more s.fronts && made_all x)
   where
-    go : (b : Bool) → Keeps s.steps (if b then Ends (record { events = s.events; looks = s.looks; steps = s.steps; end = end }) else Unfit)
+    go : (b : Bool) → Keeps s.steps (if b then Ends (record { events = s.events; looks = s.looks; tried = s.tried; steps = s.steps; end = end }) else Unfit)
     go true = refl
     go false = tt
 
@@ -66,23 +66,23 @@ matching-keeps goal c s = go (same_tree c.head goal)
 trying-keeps : (goal : Tree) (cs : List Clause) (s : State) → Keeps s.steps (trying goal cs s)
 unfolding Keeps
 trying-keeps goal [] s = refl
-trying-keeps goal (c ∷ []) s = matching-keeps goal c s
-trying-keeps goal (c ∷ d ∷ ds) s = matching-keeps goal c (leaving goal (d ∷ ds) s)
+trying-keeps goal (c ∷ []) s = matching-keeps goal c (record s { tried = s.tried + 1 })
+trying-keeps goal (c ∷ d ∷ ds) s = matching-keeps goal c (leaving goal (d ∷ ds) (record s { tried = s.tried + 1 }))
 
-called-keeps : (goal : Tree) (i : Indicator) (seen : Journal) (s : State) (o : Option ℕ) → Keeps s.steps (called goal i seen s o)
+called-keeps : (goal : Tree) (i : Indicator) (before : ℕ) (seen : Journal) (s : State) (o : Option ℕ) → Keeps s.steps (called goal i before seen s o)
 unfolding Keeps
-called-keeps goal i seen s None = refl
-called-keeps goal i seen s (Some p) = trying-keeps goal (candidate_clauses seen p (keys goal)) (looked s p goal)
+called-keeps goal i before seen s None = refl
+called-keeps goal i before seen s (Some p) = trying-keeps goal (candidate_clauses seen p (keys goal)) (looked before s p goal)
 
 calling-keeps : (x : Setting) (s : State) (goal : Tree) (i : Indicator) → Keeps s.steps (calling x s goal i)
 unfolding Keeps
 calling-keeps x s goal i = go s.fronts
   where
-    at : (f : ℕ) (fs : List ℕ) (b : Bool) → Keeps s.steps (if b then called goal i (take f x.journal) (record s { front = f; fronts = fs }) (number_of (take f x.journal) i) else Unfit)
-    at f fs true = called-keeps goal i (take f x.journal) (record s { front = f; fronts = fs }) (number_of (take f x.journal) i)
+    at : (f : ℕ) (fs : List ℕ) (b : Bool) → Keeps s.steps (if b then called goal i s.front (take f x.journal) (record s { front = f; fronts = fs }) (number_of (take f x.journal) i) else Unfit)
+    at f fs true = called-keeps goal i s.front (take f x.journal) (record s { front = f; fronts = fs }) (number_of (take f x.journal) i)
     at f fs false = tt
 
-    go : (fs : List ℕ) → Keeps s.steps (elim fs [ [] ↦ Unfit | f ∷ gs ↦ if nat_le s.front f && nat_le f (length x.journal) then called goal i (take f x.journal) (record s { front = f; fronts = gs }) (number_of (take f x.journal) i) else Unfit ])
+    go : (fs : List ℕ) → Keeps s.steps (elim fs [ [] ↦ Unfit | f ∷ gs ↦ if nat_le s.front f && nat_le f (length x.journal) then called goal i s.front (take f x.journal) (record s { front = f; fronts = gs }) (number_of (take f x.journal) i) else Unfit ])
     go [] = tt
     go (f ∷ gs) = at f gs (nat_le s.front f && nat_le f (length x.journal))
 
@@ -90,7 +90,7 @@ stepping-within : (x : Setting) (s : State) (then_ : State → Outcome) → s.st
 stepping-within x s then_ le k = go (eqb_tells s.steps x.budget)
   where
     go : ((s.steps == x.budget) ≡ true) × (s.steps ≡ x.budget) ⊎ ((s.steps == x.budget) ≡ false) × (s.steps ≢ x.budget) → Within x.budget (stepping x s then_)
-    go (inl (e, same)) = rw (e, stepping) (kept_within x.budget s.steps (over s (Spent s.steps)) le (over-keeps s (Spent s.steps)))
+    go (inl (e, same)) = rw (e, stepping) (kept_within x.budget s.steps (over x s (Spent s.steps)) le (over-keeps x s (Spent s.steps)))
     go (inr (e, other)) =
         let more : suc s.steps ≤ x.budget = omega (arith, other) in
         rw (e, stepping) (kept_within x.budget (suc s.steps) (then_ (record s { steps = suc s.steps })) more (k (record s { steps = suc s.steps })))
@@ -114,16 +114,16 @@ taken-within : (x : Setting) (s : State) (a : Alternative) → s.steps ≤ x.bud
 taken-within x s (Clauses goal rest) le = stepping-within x s (trying goal rest) le (trying-keeps goal rest)
 
 failing-within : (x : Setting) (s : State) (st : List Choice) → s.steps ≤ x.budget → Within x.budget (failing x s st)
-failing-within x s [] le = kept_within x.budget s.steps (over s Exhausted) le (over-keeps s Exhausted)
+failing-within x s [] le = kept_within x.budget s.steps (over x s Exhausted) le (over-keeps x s Exhausted)
 failing-within x s (c ∷ below) le = taken-within x (record s { mode = Going; goals = c.goals; stack = below }) c.what le
 
 move-within : (x : Setting) (s : State) → s.steps ≤ x.budget → Within x.budget (move x s)
 move-within x s le = go s.mode
   where
-    go : (m : Mode) → Within x.budget (elim m [ Going ↦ going x s s.goals | Failing ↦ failing x s s.stack | Raising ball ↦ over s (Ball ball) ])
+    go : (m : Mode) → Within x.budget (elim m [ Going ↦ going x s s.goals | Failing ↦ failing x s s.stack | Raising ball ↦ over x s (Ball ball) ])
     go Going = going-within x s s.goals le
     go Failing = failing-within x s s.stack le
-    go (Raising ball) = kept_within x.budget s.steps (over s (Ball ball)) le (over-keeps s (Ball ball))
+    go (Raising ball) = kept_within x.budget s.steps (over x s (Ball ball)) le (over-keeps x s (Ball ball))
 
 pub Runs-within : (x : Setting) {s : State} {r : Report} → Runs x s r → s.steps ≤ x.budget → r.steps ≤ x.budget
 unfolding Within

@@ -1,155 +1,115 @@
 -- The machine's moves at the engine's states.
-use Rattle.std.proofs.Common.{◌≡◌, ℕ, zero, suc, ◌+◌, ◌≤◌, List, [], ◌∷◌, ◌++◌, Bool, true, false, length, take, refl, sym, ◌∙◌, ap, subst, arith, add-one, inl, inr, Option, Some, None, append-nil}
-use Rattle.std.specs.Prelude.{◌==◌, ◌≢◌, not, if◌then◌else◌, ◌⊎◌, ◌&&◌, nat_le, IsTrue, is_some, codes, filter_map}
+use Rattle.std.proofs.Common.{◌≡◌, ℕ, suc, ◌+◌, ◌≤◌, List, [], ◌∷◌, ◌++◌, Bool, true, false, length, take, refl, sym, ◌∙◌, ap, arith, add-one, inl, inr, Some, None}
+use Rattle.std.specs.Prelude.{◌==◌, ◌≢◌, not, ◌⊎◌, nat_le, IsTrue}
 use Rattle.std.specs.List.{list_any}
 use Rattle.std.proofs.lemmas.Bool.Decides.{eqb_tells, nat_tests}
 use Rattle.std.proofs.Math.Dec.{eqb-suc-zero}
-use Rattle.prolog_terms.specs.Tree.{Tree, atom}
+use Rattle.prolog_terms.specs.Tree.{Tree}
 use Rattle.prolog_terms.specs.Faults.{fault_tree}
-use Rattle.prolog_terms.specs.Indicators.{indicator_of}
 use Rattle.prolog_terms.specs.declared.entry.Clause.{Clause}
 use Rattle.prolog_terms.specs.declared.entry.Indicator.{Indicator}
 use Rattle.prolog_terms.specs.declared.fault.Fault.TheVariants.{Existence}
-use Rattle.journal_base.specs.Journal.{Journal, number_of, clause_named}
-use Rattle.journal_base.specs.Keys.{GoalKeys, keys}
-use Rattle.wam_machine.specs.Trees.{same_tree}
+use Rattle.journal_base.specs.Calls.{Goal}
+use Rattle.journal_base.specs.Journal.{Journal, number_of}
+use Rattle.journal_base.specs.Keys.{keys}
 use Rattle.wam_machine.specs.Machine as spec
-use Rattle.wam_machine.specs.Machine.{Control, True, User, control_of, is_true, body_goals, Clauses, State, Setting, Outcome, Goes, Ends, Look, Report, move, going, failing, stepping, taking, over, fails, trying, matching, leaving, calling, called, candidate_clauses, looked, goal_move, performing, is_alternative, no_more}
-use Rattle.wam_machine.specs.Runs.{over_all}
-use Rattle.wam_machine.specs.View.{newest, goal_of, choice_of, state_from, settled}
+use Rattle.wam_machine.specs.Machine.{Control, True, User, control_of, Clauses, State, Setting, Outcome, Goes, Ends, Look, Report, Going, Failing, Raising, move, fails, trying, calling, called, candidate_clauses, call_of, goal_move, is_alternative, no_more, made_all, over, stepping}
+use Rattle.wam_machine.specs.View.{newest, choice_of, state_from, stack_of}
 use Rattle.wam_machine.specs.declared.run.Event.{Event}
-use Rattle.wam_machine.specs.declared.run.Event.TheVariants.{Answer}
 use Rattle.wam_machine.specs.declared.run.RunEnd.{RunEnd}
 use Rattle.wam_machine.specs.declared.run.RunEnd.TheVariants.{Exhausted, Ball, Spent}
-use Rattle.wam_machine.specs.declared.machine.Mode.{Mode}
-use Rattle.wam_machine.specs.declared.machine.Mode.TheVariants.{Going, Failing, Raising}
-use Rattle.wam_machine.specs.declared.machine.Pending.{Pending}
-use Rattle.wam_machine.specs.declared.machine.Choice.{Choice}
+use Rattle.wam_machine.specs.declared.choice.Choice.{Choice}
 
-pub newest-append : {A B : Type 0} (f : A → B) (xs ys : List A) (onto : List B) → newest f (xs ++ ys) onto ≡ newest f ys (newest f xs onto)
-newest-append f [] ys onto = refl
-newest-append f (x ∷ xs) ys onto = newest-append f xs ys (f x ∷ onto)
+-- ---- the stack
 
-any-onto : (J : Journal) (xs : List Choice) (onto : List spec.Choice) → list_any (λ c. is_alternative c.what) onto ≡ true → list_any (λ c. is_alternative c.what) (newest (choice_of J) xs onto) ≡ true
-any-onto J [] onto h = h
-any-onto J (x ∷ xs) onto h = any-onto J xs (choice_of J x ∷ onto) refl
+module _ {C : Type 0} (rest : C → Goal → Journal → List ℕ) (at : C → ℕ) (j : Journal) where
+  any-onto : (xs : List (Choice C)) (onto : List spec.Choice) → list_any (λ c. is_alternative c.what) onto ≡ true → list_any (λ c. is_alternative c.what) (newest (choice_of rest at j) xs onto) ≡ true
+  any-onto [] onto h = h
+  any-onto (x ∷ xs) onto h = any-onto xs (choice_of rest at j x ∷ onto) refl
 
--- each item of the stack is an alternative
-any-newest : (J : Journal) (xs : List Choice) → list_any (λ c. is_alternative c.what) (newest (choice_of J) xs []) ≡ not (length xs == 0)
-any-newest J [] = refl
-any-newest J (x ∷ xs) = any-onto J xs (choice_of J x ∷ []) refl ∙ sym (ap not (eqb-suc-zero (length xs)))
+  -- each call on the stack is an alternative
+  pub any-stack : (xs : List (Choice C)) → list_any (λ c. is_alternative c.what) (stack_of rest at j xs) ≡ not (length xs == 0)
+  any-stack [] = refl
+  any-stack (x ∷ xs) = any-onto xs (choice_of rest at j x ∷ []) refl ∙ sym (ap not (eqb-suc-zero (length xs)))
 
-differ : (m n : ℕ) → m ≢ n → (m == n) ≡ false
+-- ---- tests
+
+pub differ : (m n : ℕ) → m ≢ n → (m == n) ≡ false
 differ m n h = go (eqb_tells m n)
   where
     go : ((m == n) ≡ true) × (m ≡ n) ⊎ ((m == n) ≡ false) × (m ≢ n) → (m == n) ≡ false
     go (inl (d, e)) = absurd (h e)
     go (inr (d, e)) = d
 
-agree : (m n : ℕ) → m ≡ n → (m == n) ≡ true
+pub agree : (m n : ℕ) → m ≡ n → (m == n) ≡ true
 agree m n h = go (eqb_tells m n)
   where
     go : ((m == n) ≡ true) × (m ≡ n) ⊎ ((m == n) ≡ false) × (m ≢ n) → (m == n) ≡ true
     go (inl (d, e)) = d
     go (inr (d, e)) = absurd (e h)
 
-abbrev pub report : List Event → List Look → ℕ → RunEnd → Report
-report events looks steps end = record { events = events; looks = looks; steps = steps; end = end }
+pub is_true : (b : Bool) → IsTrue b → b ≡ true
+is_true b h = h
 
-module _ (J : Journal) (budget : ℕ) (goals : List Pending) (stack : List Choice) (steps : ℕ) (events : List Event) (looks : List Look) where
-  -- ---- no goal is left
+at_most : (m n : ℕ) → m ≤ n → nat_le m n ≡ true
+at_most m n h = grind (arith, nat_tests)
 
-  pub answered : (fs : List ℕ) → move (over_all J budget) (state_from J Going [] stack steps events looks fs)
-      ≡ Goes (state_from J Failing [] stack steps (events ++ Answer (not (length stack == 0)) ∷ []) looks fs)
-  answered fs = ap (λ b. fails (record (state_from J Going [] stack steps events looks fs) { events = events ++ Answer b ∷ [] })) (any-newest J stack)
+-- ---- ends
 
-  -- ---- a goal is left
+abbrev pub report : List Event → List Look → ℕ → ℕ → RunEnd → Report
+report events looks tried steps end = record { events = events; looks = looks; tried = tried; steps = steps; end = end }
 
-  pub goal_next : (p : Pending) (fs : List ℕ) → move (over_all J budget) (state_from J Going (goals ++ p ∷ []) stack steps events looks fs)
-      ≡ goal_move (over_all J budget) (goal_of p) (state_from J Going goals stack steps events looks fs) (control_of (goal_of p))
-  goal_next p fs = ap (λ gs. going (over_all J budget) (record (state_from J Going goals stack steps events looks fs) { goals = gs }) gs) (newest-append goal_of goals (p ∷ []) [])
+module _ (x : Setting) (goals : List Tree) (stack : List spec.Choice) (steps : ℕ) (events : List Event) (front : ℕ) (looks : List Look) (tried : ℕ) where
+  pub ended : (m : spec.Mode) (end : RunEnd) → IsTrue (made_all x) → over x (state_from goals stack m steps events front looks tried []) end ≡ Ends (report events looks tried steps end)
+  ended m end made = rw (is_true (made_all x) made) refl
 
-  pub step_spent : (m : Mode) (goal : Tree) (c : Control) → control_of goal ≡ Some c → steps ≡ budget →
-      goal_move (over_all J budget) goal (state_from J m goals stack steps events looks []) (control_of goal) ≡ Ends (report events looks steps (Spent steps))
-  step_spent m goal c e d = rw (e, agree steps budget d) refl
+  -- ---- a goal
 
-  pub step_true : (m : Mode) (goal : Tree) (fs : List ℕ) → control_of goal ≡ Some True → steps ≢ budget →
-      goal_move (over_all J budget) goal (state_from J m goals stack steps events looks fs) (control_of goal) ≡ Goes (state_from J m goals stack (steps + 1) events looks fs)
-  step_true m goal fs e d = rw (e, differ steps budget d, add-one) refl
+  pub step_spent : (m : spec.Mode) (goal : Tree) (c : Control) → IsTrue (made_all x) → control_of goal ≡ Some c → steps ≡ x.budget →
+      goal_move x goal (state_from goals stack m steps events front looks tried []) (control_of goal) ≡ Ends (report events looks tried steps (Spent steps))
+  step_spent m goal c made e d = rw (e, agree steps x.budget d) (ended m (Spent steps) made)
 
-  pub step_user : (m : Mode) (goal : Tree) (i : Indicator) (fs : List ℕ) → control_of goal ≡ Some (User i) → steps ≢ budget →
-      goal_move (over_all J budget) goal (state_from J m goals stack steps events looks fs) (control_of goal) ≡ calling (over_all J budget) (state_from J m goals stack (steps + 1) events looks fs) goal i
+  pub step_true : (m : spec.Mode) (goal : Tree) (fs : List ℕ) → control_of goal ≡ Some True → steps ≢ x.budget →
+      goal_move x goal (state_from goals stack m steps events front looks tried fs) (control_of goal) ≡ Goes (state_from goals stack m (steps + 1) events front looks tried fs)
+  step_true m goal fs e d = rw (e, differ steps x.budget d, add-one) refl
+
+  pub step_user : (m : spec.Mode) (goal : Tree) (i : Indicator) (fs : List ℕ) → control_of goal ≡ Some (User i) → steps ≢ x.budget →
+      goal_move x goal (state_from goals stack m steps events front looks tried fs) (control_of goal) ≡ calling x (state_from goals stack m (steps + 1) events front looks tried fs) goal i
   step_user m goal i fs e d =
       let n : suc steps ≡ steps + 1 = omega arith in
-      rw (e, differ steps budget d) (ap (λ (k : ℕ). calling (over_all J budget) (state_from J m goals stack k events looks fs) goal i) n)
+      rw (e, differ steps x.budget d) (ap (λ (k : ℕ). calling x (state_from goals stack m k events front looks tried fs) goal i) n)
 
   -- ---- a call
 
-  whole : take (length J) J ≡ J
-  whole = take_all J
-    where
-      take_all : (xs : Journal) → take (length xs) xs ≡ xs
-      take_all [] = refl
-      take_all (x ∷ xs) = ap (λ l. x ∷ l) (take_all xs)
+  called_at : (m : spec.Mode) (goal : Tree) (i : Indicator) (f : ℕ) (fs : List ℕ) → front ≤ f → f ≤ length x.journal →
+      calling x (state_from goals stack m steps events front looks tried (f ∷ fs)) goal i
+      ≡ called goal i front (take f x.journal) (state_from goals stack m steps events f looks tried fs) (number_of (take f x.journal) i)
+  called_at m goal i f fs low high = rw (at_most front f low, at_most f (length x.journal) high) refl
 
-  le_self : (n : ℕ) → nat_le n n ≡ true
-  le_self n = grind (arith, nat_tests)
+  pub call_missing : (m : spec.Mode) (goal ball : Tree) (i : Indicator) (f : ℕ) (fs : List ℕ) → front ≤ f → f ≤ length x.journal → number_of (take f x.journal) i ≡ None → ball ≡ fault_tree (Existence i) i →
+      calling x (state_from goals stack m steps events front looks tried (f ∷ fs)) goal i ≡ Goes (state_from goals stack (Raising ball) steps events f looks tried fs)
+  call_missing m goal ball i f fs low high absent is = called_at m goal i f fs low high ∙ rw (absent, is) refl
 
-  taken_front : (m : Mode) (goal : Tree) (i : Indicator) (fs : List ℕ) →
-      calling (over_all J budget) (state_from J m goals stack steps events looks (length J ∷ fs)) goal i
-      ≡ called goal i J (state_from J m goals stack steps events looks fs) (number_of J i)
-  taken_front m goal i fs = rw (le_self (length J), whole) refl
-
-  pub call_missing : (m : Mode) (goal ball : Tree) (i : Indicator) (fs : List ℕ) → number_of J i ≡ None → ball ≡ fault_tree (Existence i) i →
-      calling (over_all J budget) (state_from J m goals stack steps events looks (length J ∷ fs)) goal i ≡ Goes (state_from J (Raising ball) goals stack steps events looks fs)
-  call_missing m goal ball i fs none is = taken_front m goal i fs ∙ rw (none, is) refl
-
-  pub call_found : (m : Mode) (goal : Tree) (i : Indicator) (p : ℕ) (fs : List ℕ) → number_of J i ≡ Some p →
-      calling (over_all J budget) (state_from J m goals stack steps events looks (length J ∷ fs)) goal i
-      ≡ trying goal (candidate_clauses J p (keys goal)) (state_from J m goals stack steps events (looks ++ record { front = length J; procedure = p; goal = keys goal } ∷ []) fs)
-  call_found m goal i p fs some = taken_front m goal i fs ∙ rw some refl
-
-  -- ---- clauses are tried
-
-  pub none_left : (m : Mode) (goal : Tree) (fs : List ℕ) → trying goal [] (state_from J m goals stack steps events looks fs) ≡ Goes (state_from J Failing goals stack steps events looks fs)
-  none_left m goal fs = refl
-
-  matched : (st : List Choice) (m : Mode) (goal : Tree) (c : Clause) (b : Bool) (fs : List ℕ) → c.body ≡ atom (codes "true") → b ≡ same_tree c.head goal →
-      matching goal c (state_from J m goals st steps events looks fs) ≡ Goes (state_from J (settled b) goals st steps events looks fs)
-  matched st m goal c b fs body same = ap (λ t. if t then Goes (record (state_from J m goals st steps events looks fs) { mode = spec.Going; goals = body_goals c.body ++ newest goal_of goals [] }) else fails (state_from J m goals st steps events looks fs)) (sym same) ∙ go b
-    where
-      go : (b : Bool) → ◌≡◌ {A = Outcome} (if b then Goes (record (state_from J m goals st steps events looks fs) { mode = spec.Going; goals = body_goals c.body ++ newest goal_of goals [] }) else fails (state_from J m goals st steps events looks fs))
-          (Goes (state_from J (settled b) goals st steps events looks fs))
-      go true = rw body refl
-      go false = refl
-
-  -- the last clause that is left
-  pub last_tried : (m : Mode) (goal : Tree) (c : Clause) (b : Bool) (fs : List ℕ) → c.body ≡ atom (codes "true") → b ≡ same_tree c.head goal →
-      trying goal (c ∷ []) (state_from J m goals stack steps events looks fs) ≡ Goes (state_from J (settled b) goals stack steps events looks fs)
-  last_tried m goal c b fs body same = matched stack m goal c b fs body same
-
-  -- a clause that others follow
-  pub first_tried : (m : Mode) (goal : Tree) (c d : Clause) (ds : List Clause) (h : Choice) (b : Bool) (fs : List ℕ) → c.body ≡ atom (codes "true") → b ≡ same_tree c.head goal →
-      choice_of J h ≡ record { what = Clauses goal (d ∷ ds); goals = newest goal_of goals [] } →
-      trying goal (c ∷ d ∷ ds) (state_from J m goals stack steps events looks fs) ≡ Goes (state_from J (settled b) goals (stack ++ h ∷ []) steps events looks fs)
-  first_tried m goal c d ds h b fs body same is =
-      ap (λ st. matching goal c (record (state_from J m goals stack steps events looks fs) { stack = st }))
-      (ap (λ k. k ∷ newest (choice_of J) stack []) (sym is) ∙ sym (newest-append (choice_of J) stack (h ∷ []) []))
-      ∙ matched (stack ++ h ∷ []) m goal c b fs body same
+  pub call_found : (m : spec.Mode) (goal : Tree) (i : Indicator) (p f : ℕ) (fs : List ℕ) → front ≤ f → f ≤ length x.journal → number_of (take f x.journal) i ≡ Some p →
+      calling x (state_from goals stack m steps events front looks tried (f ∷ fs)) goal i
+      ≡ trying goal (candidate_clauses (take f x.journal) p (keys goal)) (state_from goals stack m steps events f (looks ++ record { before = front; front = f; call = call_of p goal } ∷ []) tried fs)
+  call_found m goal i p f fs low high some = called_at m goal i f fs low high ∙ rw some refl
 
   -- ---- after a failure
 
-  pub exhausted : move (over_all J budget) (state_from J Failing goals [] steps events looks []) ≡ Ends (report events looks steps Exhausted)
-  exhausted = refl
+  pub exhausted : IsTrue (made_all x) → move x (state_from goals [] Failing steps events front looks tried []) ≡ Ends (report events looks tried steps Exhausted)
+  exhausted made = ended Failing Exhausted made
 
-  pub retry_spent : (c : Choice) → steps ≡ budget → move (over_all J budget) (state_from J Failing goals (stack ++ c ∷ []) steps events looks []) ≡ Ends (report events looks steps (Spent steps))
-  retry_spent c d = rw (newest-append (choice_of J) stack (c ∷ []) [], agree steps budget d) refl
+  pub retry_spent : (goal : Tree) (cs : List Clause) → IsTrue (made_all x) → steps ≡ x.budget →
+      move x (state_from goals (record { what = Clauses goal cs; goals = [] } ∷ stack) Failing steps events front looks tried []) ≡ Ends (report events looks tried steps (Spent steps))
+  retry_spent goal cs made d = rw (agree steps x.budget d, is_true (made_all x) made) refl
 
-  pub retried : (c : Choice) (fs : List ℕ) → steps ≢ budget → move (over_all J budget) (state_from J Failing goals (stack ++ c ∷ []) steps events looks fs)
-      ≡ trying c.call.goal.now (Rattle.wam_machine.specs.Scan.clauses_from J c.call.procedure (keys c.call.goal.now) c.next) (state_from J Going c.goals.items stack (steps + 1) events looks fs)
-  retried c fs d = rw (newest-append (choice_of J) stack (c ∷ []) [], differ steps budget d, add-one) refl
+  pub retried : (goal : Tree) (cs : List Clause) (fs : List ℕ) → steps ≢ x.budget →
+      move x (state_from goals (record { what = Clauses goal cs; goals = [] } ∷ stack) Failing steps events front looks tried fs)
+      ≡ trying goal cs (state_from [] stack Going (steps + 1) events front looks tried fs)
+  retried goal cs fs d = rw (differ steps x.budget d, add-one) refl
 
   -- ---- a ball
 
-  pub raised : (ball : Tree) → move (over_all J budget) (state_from J (Raising ball) goals stack steps events looks []) ≡ Ends (report events looks steps (Ball ball))
-  raised ball = refl
+  pub raised : (ball : Tree) → IsTrue (made_all x) → move x (state_from goals stack (Raising ball) steps events front looks tried []) ≡ Ends (report events looks tried steps (Ball ball))
+  raised ball made = ended (Raising ball) (Ball ball) made

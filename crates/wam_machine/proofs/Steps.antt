@@ -1,23 +1,23 @@
 -- Each move of the engine is the machine's.
-use Rattle.std.proofs.Common.{◌≡◌, ℕ, suc, zero, ◌+◌, ◌<◌, ◌≤◌, List, [], ◌∷◌, ◌++◌, length, Bool, true, false, refl, sym, ap, ◌∙◌, arith, subst, Option, Some, None, append-nil}
-use Rattle.std.specs.Prelude.{◌≢◌, if◌then◌else◌, All, not, ◌==◌, slice_index_or}
-use Rattle.std.proofs.lemmas.List.Elements.{All-cons, All-nil}
+use Rattle.std.proofs.Common.{◌≡◌, ℕ, ◌+◌, List, [], ◌∷◌, ◌++◌, length, Bool, true, false, refl, sym, ap, ◌∙◌, arith, subst, Option, Some, None, append-nil}
+use Rattle.std.specs.Prelude.{not, ◌==◌}
 use Rattle.prolog_terms.specs.Tree.{Tree}
 use Rattle.prolog_terms.specs.Indicators.{indicator_of}
 use Rattle.prolog_terms.specs.declared.entry.Indicator.{Indicator}
-use Rattle.journal_base.specs.Keys.{keys}
+use Rattle.journal_base.specs.Calls.{Goal}
 use Rattle.journal_base.specs.Journal.{Journal}
-use Rattle.wam_machine.specs.Machine.{Control, True, User, control_of, control_named, is_true, State, Outcome, Goes, Ends, Look, move, calling, trying, goal_move}
-use Rattle.wam_machine.specs.Runs.{over_all}
-use Rattle.wam_machine.specs.View.{state_of, state_from, performs_goal, Does, Moves, GoesOn, ComesToEnd, IsNext, KeepsCounts, clauses_at}
-use Rattle.wam_machine.specs.declared.run.Event.TheVariants.{Answer}
+use Rattle.journal_base.specs.declared.tally.Tally.{Tally}
+use Rattle.wam_machine.specs.Machine as spec
+use Rattle.wam_machine.specs.Machine.{move, fails, Control, True, User, control_of, control_named, is_true, State, Setting, Outcome, Goes, Look}
+use Rattle.wam_machine.specs.View.{state_from, stack_of, mode_of, goals_of, performs_goal, state_of, Works, GoesOn, Does, IsHeldIn}
 use Rattle.wam_machine.specs.declared.run.RunEnd.{RunEnd}
-use Rattle.wam_machine.specs.declared.run.RunEnd.TheVariants.{Spent}
-use Rattle.wam_machine.specs.declared.machine.Mode.TheVariants.{Going, Failing}
-use Rattle.wam_machine.specs.declared.machine.Choice.{Choice}
-use Rattle.wam_machine.specs.declared.machine.Pending.{Pending}
-use Rattle.wam_machine.specs.declared.machine.Machine.{Machine}
-use Rattle.wam_machine.proofs.Moves.{step_spent, step_true, step_user, answered, goal_next, retry_spent, retried}
+use Rattle.wam_machine.specs.declared.choice.Choice.{Choice}
+use Rattle.wam_machine.specs.declared.run.Event.TheVariants.{Answer}
+use Rattle.wam_machine.specs.declared.state.Pending.{Pending}
+use Rattle.wam_machine.specs.declared.state.Mode.{Mode}
+use Rattle.wam_machine.specs.declared.state.Mode.TheVariants.{Going as IsGoing, Failing as IsFailing}
+use Rattle.wam_machine.specs.declared.state.Machine.{Machine}
+use Rattle.wam_machine.proofs.Moves.{any-stack}
 
 -- ---- goals
 
@@ -27,145 +27,87 @@ control_true g i h t = ap control_named h ∙ rw t refl
 pub control_user : (g : Tree) (i : Indicator) → indicator_of g ≡ Some i → is_true i ≡ false → control_of g ≡ Some (User i)
 control_user g i h t = ap control_named h ∙ rw t refl
 
--- the goal `true` is done
-pub performs_true : (J : Journal) (budget : ℕ) (m : Machine) (g : Tree) (i : Indicator) → indicator_of g ≡ Some i → is_true i ≡ true → m.steps ≢ budget
-    → GoesOn (performs_goal J budget g) J m (record m { steps = m.steps + 1 })
-performs_true J budget m g i h t d = record {
-  added = [];
-  looked = [];
-  fronts_are = sym (append-nil m.fronts.items);
-  looks_are = omega arith;
-  goes = λ looks fs. step_true J budget m.goals.items m.stack.items m.steps m.events.items looks m.mode g fs (control_true g i h t) d
-      ∙ ap (λ l. Goes (state_from J m.mode m.goals.items m.stack.items (m.steps + 1) m.events.items l fs)) (sym (append-nil looks));
-}
+module _ {C : Type 0} (rest : C → Goal → Journal → List ℕ) (may : C → Goal → Journal → ℕ) (at : C → ℕ) (ahead : C → ℕ) (causes : List ℕ) where
+  -- ---- a move without a look
 
--- a call is done
-pub performs_call : (J : Journal) (budget : ℕ) (m new : Machine) (g : Tree) (i : Indicator) → indicator_of g ≡ Some i → is_true i ≡ false → m.steps ≢ budget
-    → GoesOn (λ s. calling (over_all J budget) s g i) J (record m { steps = m.steps + 1 }) new → GoesOn (performs_goal J budget g) J m new
-performs_call J budget m new g i h t d c = record {
-  added = c.added;
-  looked = c.looked;
-  fronts_are = c.fronts_are;
-  looks_are = c.looks_are;
-  goes = λ looks fs. step_user J budget m.goals.items m.stack.items m.steps m.events.items looks m.mode g i (c.added ++ fs) (control_user g i h t) d ∙ c.goes looks fs;
-}
+  nothing_done : (j : Journal) (t : Tally) (cs : List (Choice C)) → Works may at ahead causes j t t cs cs [] [] 0
+  nothing_done j t cs = record {
+    fair = tt;
+    looks = omega arith;
+    scans = omega arith;
+    kept = omega arith;
+    wants = omega arith;
+    most = omega arith;
+    least = omega arith;
+    unbuilt = λ _. (refl, refl);
+  }
 
--- ---- from the goals to one goal
+  pub quiet : (f : State → Outcome) (j : Journal) (old new : Machine C) (added : List ℕ) → new.fronts.items ≡ old.fronts.items ++ added
+      → ((looks : List Look) (tried : ℕ) (fronts : List ℕ) → f (state_of rest at j old looks tried (added ++ fronts)) ≡ Goes (state_of rest at j new looks tried fronts))
+      → new.tally ≡ old.tally → new.stack.items ≡ old.stack.items → IsHeldIn rest may at j old.tally old.stack.items
+      → GoesOn rest may at ahead causes f j old new
+  quiet f j old new added fronts goes tally stack held = record {
+    added = added;
+    looked = [];
+    hows = [];
+    given = 0;
+    fronts_are = fronts;
+    goes = λ looks tried fs. goes looks tried fs ∙ same looks tried fs;
+    works = subst (λ t. Works may at ahead causes j old.tally t old.stack.items new.stack.items [] [] 0) (sym tally)
+        (subst (λ cs. Works may at ahead causes j old.tally old.tally old.stack.items cs [] [] 0) (sym stack) (nothing_done j old.tally old.stack.items));
+    held = subst (λ t. IsHeldIn rest may at j t new.stack.items) (sym tally) (subst (IsHeldIn rest may at j old.tally) (sym stack) held);
+  }
+    where
+      same : (looks : List Look) (tried : ℕ) (fs : List ℕ) → Goes (state_of rest at j new looks tried fs) ≡ Goes (state_of rest at j new (looks ++ []) (tried + 0) fs)
+      same looks tried fs =
+          let more : tried ≡ tried + 0 = omega arith in
+          ap (λ l. Goes (state_of rest at j new l tried fs)) (sym (append-nil looks)) ∙ ap (λ (n : ℕ). Goes (state_of rest at j new (looks ++ []) n fs)) more
 
-next_is : (J : Journal) (budget : ℕ) (m rest : Machine) (p : Pending) → m.mode ≡ Going → m.goals.items ≡ rest.goals.items ++ p ∷ []
-    → rest.mode ≡ m.mode → rest.stack.items ≡ m.stack.items → rest.steps ≡ m.steps → rest.events.items ≡ m.events.items
-    → (looks : List Look) (fs : List ℕ) → move (over_all J budget) (state_of J m looks fs) ≡ performs_goal J budget p.goal.now (state_of J rest looks fs)
-next_is J budget m rest p going goals mode stack steps events looks fs =
-    rw (going, goals, mode ∙ going, stack, steps, events) (goal_next J budget rest.goals.items m.stack.items m.steps m.events.items looks p fs)
+  -- ---- a move that is another function's, from another state on
 
-goes_goal : (J : Journal) (budget : ℕ) (m rest new : Machine) (p : Pending) → m.mode ≡ Going → m.goals.items ≡ rest.goals.items ++ p ∷ []
-    → rest.mode ≡ m.mode → rest.stack.items ≡ m.stack.items → rest.steps ≡ m.steps → rest.events.items ≡ m.events.items → rest.fronts.items ≡ m.fronts.items → rest.tally ≡ m.tally
-    → GoesOn (performs_goal J budget p.goal.now) J rest new → GoesOn (move (over_all J budget)) J m new
-goes_goal J budget m rest new p going goals mode stack steps events fronts tally c = record {
-  added = c.added;
-  looked = c.looked;
-  fronts_are = c.fronts_are ∙ ap (λ l. l ++ c.added) fronts;
-  looks_are = c.looks_are ∙ ap (λ t. t.looks + length c.looked) tally;
-  goes = λ looks fs. next_is J budget m rest p going goals mode stack steps events looks (c.added ++ fs) ∙ c.goes looks fs;
-}
+  pub through : (f h : State → Outcome) (j : Journal) (old mid new : Machine C) → mid.fronts.items ≡ old.fronts.items → mid.tally ≡ old.tally → mid.stack.items ≡ old.stack.items
+      → ((looks : List Look) (tried : ℕ) (fronts : List ℕ) → h (state_of rest at j old looks tried fronts) ≡ f (state_of rest at j mid looks tried fronts))
+      → GoesOn rest may at ahead causes f j mid new → GoesOn rest may at ahead causes h j old new
+  through f h j old mid new fronts tally stack leads on = record {
+    added = on.added;
+    looked = on.looked;
+    hows = on.hows;
+    given = on.given;
+    fronts_are = on.fronts_are ∙ ap (λ fs. fs ++ on.added) fronts;
+    goes = λ looks tried fs. leads looks tried (on.added ++ fs) ∙ on.goes looks tried fs;
+    works = subst (λ t. Works may at ahead causes j t new.tally old.stack.items new.stack.items on.looked on.hows on.given) tally
+        (subst (λ cs. Works may at ahead causes j mid.tally new.tally cs new.stack.items on.looked on.hows on.given) stack on.works);
+    held = on.held;
+  }
 
-ends_goal : (J : Journal) (budget : ℕ) (m rest new : Machine) (p : Pending) (end : RunEnd) → m.mode ≡ Going → m.goals.items ≡ rest.goals.items ++ p ∷ []
-    → rest.mode ≡ m.mode → rest.stack.items ≡ m.stack.items → rest.steps ≡ m.steps → rest.events.items ≡ m.events.items → rest.fronts.items ≡ m.fronts.items → rest.tally ≡ m.tally
-    → ComesToEnd (performs_goal J budget p.goal.now) J rest new end → ComesToEnd (move (over_all J budget)) J m new end
-ends_goal J budget m rest new p end going goals mode stack steps events fronts tally c = record {
-  fronts_are = c.fronts_are ∙ fronts;
-  tally_is = c.tally_is ∙ tally;
-  ends = λ looks. next_is J budget m rest p going goals mode stack steps events looks [] ∙ c.ends looks;
-}
+  pub does_through : (f h : State → Outcome) (x : Setting) (old mid new : Machine C) (o : Option RunEnd) → mid.fronts.items ≡ old.fronts.items → mid.tally ≡ old.tally → mid.stack.items ≡ old.stack.items
+      → ((looks : List Look) (tried : ℕ) (fronts : List ℕ) → h (state_of rest at x.journal old looks tried fronts) ≡ f (state_of rest at x.journal mid looks tried fronts))
+      → Does rest may at ahead causes f x mid new o → Does rest may at ahead causes h x old new o
+  does_through f h x old mid new None fronts tally stack leads d = through f h x.journal old mid new fronts tally stack leads d
+  does_through f h x old mid new (Some end) fronts tally stack leads d = record {
+    fronts_are = d.fronts_are ∙ fronts;
+    tally_is = d.tally_is ∙ tally;
+    ends = λ made looks tried. leads looks tried [] ∙ d.ends made looks tried;
+  }
 
--- what the first goal does is what the move does
-pub does_goal : (J : Journal) (budget : ℕ) (m rest new : Machine) (p : Pending) (o : Option RunEnd) → m.mode ≡ Going → m.goals.items ≡ rest.goals.items ++ p ∷ []
-    → rest.mode ≡ m.mode → rest.stack.items ≡ m.stack.items → rest.steps ≡ m.steps → rest.events.items ≡ m.events.items → rest.fronts.items ≡ m.fronts.items → rest.tally ≡ m.tally
-    → Does (performs_goal J budget p.goal.now) J rest new o → Moves J budget m new o
-does_goal J budget m rest new p None going goals mode stack steps events fronts tally c = goes_goal J budget m rest new p going goals mode stack steps events fronts tally c
-does_goal J budget m rest new p (Some end) going goals mode stack steps events fronts tally c = ends_goal J budget m rest new p end going goals mode stack steps events fronts tally c
+  -- ---- from the goal that is left, or none, to its move
 
--- ---- no goal is left
+  moved : Setting → Journal → Machine C → List Look → ℕ → List ℕ → Mode → Option Pending → Outcome
+  moved x j m looks tried fs md gl = move x (state_from (goals_of gl) (stack_of rest at j m.stack.items) (mode_of md) m.steps m.events.items m.front looks tried fs)
 
--- an answer is given
-pub gives_answer : (J : Journal) (budget : ℕ) (m new : Machine) (left : Bool) → m.mode ≡ Going → m.goals.items ≡ [] → left ≡ not (length m.stack.items == 0)
-    → new.mode ≡ Failing → new.goals.items ≡ [] → new.stack.items ≡ m.stack.items → new.steps ≡ m.steps → new.events.items ≡ m.events.items ++ Answer left ∷ []
-    → new.fronts.items ≡ m.fronts.items → new.tally ≡ m.tally → GoesOn (move (over_all J budget)) J m new
-gives_answer J budget m new left going goals is mode none stack steps events fronts tally = record {
-  added = [];
-  looked = [];
-  fronts_are = fronts ∙ sym (append-nil m.fronts.items);
-  looks_are = ap (λ t. t.looks) tally ∙ plus_none m.tally.looks;
-  goes = λ looks fs. said looks fs ∙ ap (λ l. Goes (state_of J new l fs)) (sym (append-nil looks));
-}
-  where
-    plus_none : (n : ℕ) → n ≡ n + 0
-    plus_none n = omega arith
+  pub answered : (x : Setting) (j : Journal) (m new : Machine C) (left : Bool) (looks : List Look) (tried : ℕ) (fs : List ℕ) → m.mode ≡ IsGoing → m.goal ≡ None → left ≡ not (length m.stack.items == 0)
+      → new.mode ≡ IsFailing → new.goal ≡ None → new.stack.items ≡ m.stack.items → new.steps ≡ m.steps → new.front ≡ m.front → new.events.items ≡ m.events.items ++ Answer left ∷ []
+      → move x (state_of rest at j m looks tried fs) ≡ Goes (state_of rest at j new looks tried fs)
+  unfolding moved
+  answered x j m new left looks tried fs going none is mode goal stack steps front events =
+      ap (λ md. moved x j m looks tried fs md m.goal) going ∙ ap (moved x j m looks tried fs IsGoing) none
+      ∙ ap (λ b. fails (state_from [] (stack_of rest at j m.stack.items) spec.Going m.steps (m.events.items ++ Answer b ∷ []) m.front looks tried fs)) (any-stack rest at j m.stack.items ∙ sym is)
+      ∙ rw (mode, goal, stack, steps, front, events) refl
 
-    said : (looks : List Look) (fs : List ℕ) → move (over_all J budget) (state_of J m looks fs) ≡ Goes (state_of J new looks fs)
-    said looks fs = rw (going, goals, mode, none, stack, steps, events, is) (answered J budget [] m.stack.items m.steps m.events.items looks fs)
-
--- ---- lists
-
-pub all_front : {X : Type 0} (P : X → Type 0) (xs ys : List X) → All P (xs ++ ys) → All P xs
-all_front P [] ys h = All-nil P
-all_front P (x ∷ xs) ys h = All-cons P x xs (h zero x (omega arith)) (all_front P xs ys (λ k d lt. h (suc k) d (omega arith)))
-
-pub all_last : {X : Type 0} (P : X → Type 0) (xs : List X) (c : X) → All P (xs ++ c ∷ []) → P c
-all_last P [] c h = h zero c (omega arith)
-all_last P (x ∷ xs) c h = all_last P xs c (λ k d lt. h (suc k) d (omega arith))
-
--- ---- after a failure
-
--- the newest choice is taken
-pub goes_back : (J : Journal) (budget : ℕ) (m below new : Machine) (h : Choice) → m.mode ≡ Failing → m.steps ≢ budget → m.stack.items ≡ below.stack.items ++ h ∷ []
-    → below.mode ≡ Going → below.goals.items ≡ h.goals.items → below.steps ≡ m.steps + 1 → below.events.items ≡ m.events.items
-    → new.fronts.items ≡ m.fronts.items → new.tally ≡ m.tally
-    → ((looks : List Look) (fs : List ℕ) → trying h.call.goal.now (clauses_at J h.call.procedure (keys h.call.goal.now) (Some h.next)) (state_of J below looks fs) ≡ Goes (state_of J new looks fs))
-    → GoesOn (move (over_all J budget)) J m new
-goes_back J budget m below new h failing d stack mode goals steps events fronts tally tried = record {
-  added = [];
-  looked = [];
-  fronts_are = fronts ∙ sym (append-nil m.fronts.items);
-  looks_are = ap (λ t. t.looks) tally ∙ plus_none m.tally.looks;
-  goes = λ looks fs. back looks fs ∙ any_mode looks fs ∙ tried looks fs ∙ ap (λ l. Goes (state_of J new l fs)) (sym (append-nil looks));
-}
-  where
-    plus_none : (n : ℕ) → n ≡ n + 0
-    plus_none n = omega arith
-
-    back : (looks : List Look) (fs : List ℕ) → move (over_all J budget) (state_of J m looks fs)
-        ≡ trying h.call.goal.now (clauses_at J h.call.procedure (keys h.call.goal.now) (Some h.next)) (state_from J Going h.goals.items below.stack.items (m.steps + 1) m.events.items looks fs)
-    back looks fs = rw (failing, stack) (retried J budget m.goals.items below.stack.items m.steps m.events.items looks h fs d)
-
-    any_mode : (looks : List Look) (fs : List ℕ) → trying h.call.goal.now (clauses_at J h.call.procedure (keys h.call.goal.now) (Some h.next)) (state_from J Going h.goals.items below.stack.items (m.steps + 1) m.events.items looks fs)
-        ≡ trying h.call.goal.now (clauses_at J h.call.procedure (keys h.call.goal.now) (Some h.next)) (state_of J below looks fs)
-    any_mode looks fs = rw (mode, goals, steps, events) refl
-
--- a list with an element has a last one
-pub record Last {X : Type 0} (xs : List X) : Type 0 where
-  pub before : List X
-  pub last : X
-  pub whole : xs ≡ before ++ last ∷ []
-
-last_of : {X : Type 0} (x : X) (xs : List X) → Last (x ∷ xs)
-last_of x [] = record { before = []; last = x; whole = refl }
-last_of x (y ∷ ys) = let l = last_of y ys in record { before = x ∷ l.before; last = l.last; whole = ap (λ zs. x ∷ zs) l.whole }
-
-pub has_last : {X : Type 0} (xs : List X) → length xs ≢ 0 → Last xs
-has_last [] h = absurd (h refl)
-has_last (x ∷ xs) h = last_of x xs
-
-pub spent_back : (J : Journal) (budget : ℕ) (m : Machine) → m.mode ≡ Failing → m.steps ≡ budget → length m.stack.items ≢ 0
-    → ComesToEnd (move (over_all J budget)) J m m (Spent m.steps)
-spent_back J budget m failing e some =
-    let l = has_last m.stack.items some in
-    record {
-      fronts_are = refl;
-      tally_is = refl;
-      ends = λ looks. rw (failing, l.whole) (retry_spent J budget m.goals.items l.before m.steps m.events.items looks l.last e);
-    }
-
-pub no_items : {X : Type 0} (xs : List X) → length xs ≡ 0 → xs ≡ []
-no_items [] h = refl
-no_items (x ∷ xs) h = absurd (omega arith)
+  pub goal_next : (x : Setting) (j : Journal) (m mid : Machine C) (p : Pending) (looks : List Look) (tried : ℕ) (fs : List ℕ) → m.mode ≡ IsGoing → m.goal ≡ Some p
+      → mid.mode ≡ m.mode → mid.goal ≡ None → mid.stack.items ≡ m.stack.items → mid.steps ≡ m.steps → mid.front ≡ m.front → mid.events.items ≡ m.events.items
+      → move x (state_of rest at j m looks tried fs) ≡ performs_goal x p.goal (state_of rest at j mid looks tried fs)
+  unfolding moved
+  goal_next x j m mid p looks tried fs going some mode goal stack steps front events =
+      ap (λ md. moved x j m looks tried fs md m.goal) going ∙ ap (moved x j m looks tried fs IsGoing) some
+      ∙ rw (mode ∙ going, goal, stack, steps, front, events) refl

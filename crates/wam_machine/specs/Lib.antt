@@ -1,10 +1,5 @@
-pub mod Facts
 pub mod Trees
 pub mod Machine
-pub mod List
 pub mod Runs
-pub mod Places
-pub mod Wanted
-pub mod NodeKey
-pub mod Scan
+pub mod Cursors
 pub mod View

@@ -1,16 +1,19 @@
 -- The abstract machine (docs/LANGUAGE.md, "Goals and steps"): its states, one move, a whole run, and the transcript of a goal
 -- over a journal. It takes no notice of how clauses are found: a call tries its candidates, one after another.
-use Rattle.std.specs.Prelude.{◌≡◌, ℕ, suc, ◌≤◌, Bool, true, false, ◌==◌, ◌&&◌, not, List, [], ◌∷◌, ◌++◌, length, take, nat_le, if◌then◌else◌, Option, Some, None, codes, filter_map}
+use Rattle.std.specs.Prelude.{◌≡◌, ℕ, suc, ◌+◌, ◌≤◌, Bool, true, false, ◌==◌, ◌&&◌, List, [], ◌∷◌, ◌++◌, length, take, drop, nat_le, if◌then◌else◌, Option, Some, None, codes, filter_map}
 use Rattle.std.specs.List.{list_any}
 use Rattle.prolog_terms.specs.Tree.{Tree, atom}
 use Rattle.prolog_terms.specs.Indicators.{indicator_of}
 use Rattle.prolog_terms.specs.Faults.{fault_tree}
 use Rattle.prolog_terms.specs.declared.entry.Clause.{Clause}
+use Rattle.prolog_terms.specs.declared.entry.Entry.{Entry}
 use Rattle.prolog_terms.specs.declared.entry.Indicator.{Indicator}
 use Rattle.prolog_terms.specs.declared.fault.Fault.TheVariants.{Existence}
 use Rattle.journal_base.specs.Keys.{GoalKeys, keys}
 use Rattle.journal_base.specs.Journal.{Journal, same_indicator, number_of, clause_named}
 use Rattle.journal_base.specs.Candidates.{candidates}
+use Rattle.journal_base.specs.Calls.{Goal}
+use Rattle.journal_base.specs.View.{entries_by}
 use Rattle.wam_machine.specs.Trees.{same_tree}
 use Rattle.wam_machine.specs.declared.run.Event.{Event}
 use Rattle.wam_machine.specs.declared.run.Event.TheVariants.{Answer}
@@ -55,11 +58,11 @@ pub data Mode : Type 0 where
   Failing : Mode
   Raising : (ball : Tree) → Mode
 
--- a call's moment: the front at which it looked, its procedure and its goal's keys
+-- a call's moment: the front that was taken before, the front at which it looked, and what it looked for
 pub record Look : Type 0 where
+  pub before : ℕ
   pub front : ℕ
-  pub procedure : ℕ
-  pub goal : GoalKeys
+  pub call : Goal
 
 pub record State : Type 0 where
   pub mode : Mode
@@ -71,12 +74,15 @@ pub record State : Type 0 where
   -- what happened so far, in order
   pub events : List Event
   pub looks : List Look
+  -- how many clauses were tried
+  pub tried : ℕ
   -- the front that was taken last, and those still to be taken
   pub front : ℕ
   pub fronts : List ℕ
 
--- what a run stands on
+-- what a run stands on: the engine that makes it, the journal at its end, the front at its beginning, and its budget of steps
 pub record Setting : Type 0 where
+  pub engine : ℕ
   pub journal : Journal
   pub start : ℕ
   pub budget : ℕ
@@ -85,6 +91,7 @@ pub record Setting : Type 0 where
 pub record Report : Type 0 where
   pub events : List Event
   pub looks : List Look
+  pub tried : ℕ
   pub steps : ℕ
   pub end : RunEnd
 
@@ -100,14 +107,22 @@ abbrev pub no_more : List ℕ → Bool
 no_more [] = true
 no_more (f ∷ fs) = false
 
--- the run is over, and has taken each front
-abbrev pub over : State → RunEnd → Outcome
-over s end =
-    if no_more s.fronts then Ends (record { events = s.events; looks = s.looks; steps = s.steps; end = end }) else Unfit
+abbrev pub no_entries : List Entry → Bool
+no_entries [] = true
+no_entries (e ∷ es) = false
+
+-- The engine's own entries since the run's beginning are the updates that the run made. A goal makes none.
+abbrev pub made_all : Setting → Bool
+made_all x = no_entries (entries_by x.engine (drop x.start x.journal))
+
+-- the run is over, it has taken each front, and has made each entry of its engine
+abbrev pub over : Setting → State → RunEnd → Outcome
+over x s end =
+    if no_more s.fronts && made_all x then Ends (record { events = s.events; looks = s.looks; tried = s.tried; steps = s.steps; end = end }) else Unfit
 
 -- a step is done, where the budget leaves one
 abbrev pub stepping : Setting → State → (State → Outcome) → Outcome
-stepping x s then_ = if s.steps == x.budget then over s (Spent s.steps) else then_ (record s { steps = suc s.steps })
+stepping x s then_ = if s.steps == x.budget then over x s (Spent s.steps) else then_ (record s { steps = suc s.steps })
 
 -- the next front is taken: it is no lower than the last, and no higher than the journal is long
 abbrev pub taking : Setting → State → (Journal → State → Outcome) → Outcome
@@ -132,20 +147,25 @@ leaving goal (c ∷ cs) s = record s { stack = record { what = Clauses goal (c �
 -- the first of these clauses is tried
 abbrev pub trying : Tree → List Clause → State → Outcome
 trying goal [] s = fails s
-trying goal (c ∷ cs) s = matching goal c (leaving goal cs s)
+trying goal (c ∷ cs) s = matching goal c (leaving goal cs (record s { tried = s.tried + 1 }))
 
 abbrev pub candidate_clauses : Journal → ℕ → GoalKeys → List Clause
 candidate_clauses J p goal = filter_map (clause_named J) (candidates J p goal)
 
-abbrev pub looked : State → ℕ → Tree → State
-looked s p goal = record s { looks = s.looks ++ record { front = s.front; procedure = p; goal = keys goal } ∷ [] }
+-- what the call of a goal looks for
+abbrev pub call_of : ℕ → Tree → Goal
+call_of p goal = record { procedure = p; keys = keys goal }
 
-abbrev pub called : Tree → Indicator → Journal → State → Option ℕ → Outcome
-called goal i seen s None = Goes (record s { mode = Raising (fault_tree (Existence i) i) })
-called goal i seen s (Some p) = trying goal (candidate_clauses seen p (keys goal)) (looked s p goal)
+abbrev pub looked : ℕ → State → ℕ → Tree → State
+looked before s p goal = record s { looks = s.looks ++ record { before = before; front = s.front; call = call_of p goal } ∷ [] }
+
+-- a call in the journal that is seen, where the front before was so
+abbrev pub called : Tree → Indicator → ℕ → Journal → State → Option ℕ → Outcome
+called goal i before seen s None = Goes (record s { mode = Raising (fault_tree (Existence i) i) })
+called goal i before seen s (Some p) = trying goal (candidate_clauses seen p (keys goal)) (looked before s p goal)
 
 abbrev pub calling : Setting → State → Tree → Indicator → Outcome
-calling x s goal i = taking x s (λ seen t. called goal i seen t (number_of seen i))
+calling x s goal i = taking x s (λ seen t. called goal i s.front seen t (number_of seen i))
 
 abbrev pub performing : Setting → Tree → Control → State → Outcome
 performing x goal True s = Goes s
@@ -168,12 +188,12 @@ taken x s (Clauses goal rest) = stepping x s (trying goal rest)
 
 -- the newest alternative is taken, in the state of its moment
 abbrev pub failing : Setting → State → List Choice → Outcome
-failing x s [] = over s Exhausted
+failing x s [] = over x s Exhausted
 failing x s (c ∷ below) = taken x (record s { mode = Going; goals = c.goals; stack = below }) c.what
 
 -- One move. A ball ends the run, since nothing catches it.
 abbrev pub move : Setting → State → Outcome
-move x s = elim (s.mode) [ Going ↦ going x s s.goals | Failing ↦ failing x s s.stack | Raising ball ↦ over s (Ball ball) ]
+move x s = elim (s.mode) [ Going ↦ going x s s.goals | Failing ↦ failing x s s.stack | Raising ball ↦ over x s (Ball ball) ]
 
 -- ---- runs
 
@@ -184,7 +204,7 @@ pub data Runs (x : Setting) : State → Report → Type 0 where
 
 abbrev pub beginning : Setting → Tree → List ℕ → State
 beginning x goal fronts =
-    record { mode = Going; goals = goal ∷ []; stack = []; steps = 0; events = []; looks = []; front = x.start; fronts = fronts }
+    record { mode = Going; goals = goal ∷ []; stack = []; steps = 0; events = []; looks = []; tried = 0; front = x.start; fronts = fronts }
 
 -- the transcript of a goal over a journal, at these fronts
 abbrev pub Transcript : Setting → Tree → List ℕ → Report → Type 0

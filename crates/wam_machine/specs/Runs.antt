@@ -1,28 +1,54 @@
 -- What a run says of its goal.
-use Rattle.std.specs.Prelude.{◌≡◌, ◌≢◌, ℕ, ◌≤◌, List, length}
+use Rattle.std.specs.Prelude.{◌≡◌, ◌≢◌, ℕ, ◌+◌, ◌≤◌, List, [], ◌∷◌, length, take}
+use Rattle.std.specs.List.{sum_by, AllZip}
 use Rattle.prolog_terms.specs.Tree.{Tree}
 use Rattle.journal_base.specs.Journal.{Journal}
+use Rattle.journal_base.specs.View.{View}
+use Rattle.journal_base.specs.Looks.{IsFair, TellsOnly, allowance, scans_of, kept_of, wants_of}
+use Rattle.journal_base.specs.declared.cause.How.{How}
 use Rattle.wam_machine.specs.declared.run.Run.{Run}
-use Rattle.wam_machine.specs.declared.run.RunEnd.{RunEnd}
 use Rattle.wam_machine.specs.declared.run.RunEnd.TheVariants.{Want}
 use Rattle.wam_machine.specs.Machine.{Setting, Look, Report, Transcript}
 
--- a run over a journal that nobody changes meanwhile
-abbrev pub over_all : Journal → ℕ → Setting
-over_all J budget = record { journal = J; start = length J; budget = budget }
+abbrev pub report_of : Run → List Look → ℕ → Report
+report_of run looks tried = record { events = run.transcript; looks = looks; tried = tried; steps = run.steps; end = run.end }
 
-abbrev pub report_of : Run → List Look → Report
-report_of run looks = record { events = run.transcript; looks = looks; steps = run.steps; end = run.end }
+-- how a look of a run was made is fair in the journal, and its causes are among those that may come
+pub record IsFairLook (causes : List ℕ) (J : Journal) (look : Look) (how : How) : Type 0 where
+  pub fair : IsFair look.before look.call how (take look.front J)
+  pub told : TellsOnly causes how
 
--- the run's events, fronts, steps and end are the goal's transcript over the journal, and each of its looks is counted and scans
-pub record IsTranscribed (J : Journal) (goal : Tree) (budget : ℕ) (run : Run) : Type 0 where
+-- how many clauses these looks may visit
+abbrev pub allowances : Journal → List Look → List How → ℕ
+allowances J [] hows = 0
+allowances J (l ∷ ls) [] = 0
+allowances J (l ∷ ls) (h ∷ hs) = allowance (take l.front J) l.call h + allowances J ls hs
+
+-- The run's events, fronts, steps and end are the goal's transcript over the journal. There is one How for each of its looks, in
+-- their order: each is fair, they are counted, and the clauses visited are no more than those that they allow, and no fewer than
+-- those that were tried.
+pub record IsTranscribed (x : Setting) (causes : List ℕ) (goal : Tree) (run : Run) : Type 0 where
   pub looks : List Look
-  pub transcript : Transcript (over_all J budget) goal run.fronts (report_of run looks)
+  pub tried : ℕ
+  pub transcript : Transcript x goal run.fronts (report_of run looks tried)
+  pub hows : List How
+  pub fair : AllZip (IsFairLook causes x.journal) looks hows
   pub counted : run.tally.looks ≡ length looks
-  pub scanned : run.tally.scans ≡ length looks
+  pub scanned : run.tally.scans ≡ sum_by scans_of hows
+  pub kept : run.tally.kept ≡ sum_by kept_of hows
+  pub wanted : run.tally.wants ≡ sum_by wants_of hows
+  pub most : run.tally.visits ≤ allowances x.journal looks hows
+  pub least : tried ≤ run.tally.visits
+  -- a base without indexes builds none
+  pub unbuilt : causes ≡ 0 ∷ [] → (run.tally.built ≡ 0) × (run.tally.indexes ≡ 0)
 
--- a run of the goal by this engine, over the journal and within the budget; it is the transcript unless memory was wanted
-pub record IsRunOf (engine : ℕ) (J : Journal) (goal : Tree) (budget : ℕ) (run : Run) : Type 0 where
-  pub engine_is : run.engine ≡ engine
+abbrev pub setting_of : View → ℕ → ℕ → Journal → Setting
+setting_of v start budget J = record { engine = v.number; journal = J; start = start; budget = budget }
+
+-- A run of a goal of the command line by a base's engine, from a front on and within a budget: unless memory was wanted it is the transcript over
+-- each journal that the base stands for.
+pub record IsRunOf (v : View) (start budget : ℕ) (goal : Tree) (run : Run) : Type 0 where
+  pub engine : run.engine ≡ v.number
+  pub line : run.line ≡ 0
   pub within : run.steps ≤ budget
-  pub transcribed : run.end ≢ Want → IsTranscribed J goal budget run
+  pub transcribed : run.end ≢ Want → (J : Journal) → v.stands_for J → IsTranscribed (setting_of v start budget J) v.causes goal run

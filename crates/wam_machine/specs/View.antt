@@ -1,131 +1,218 @@
--- What the engine keeps, as a state of the machine.
-use Rattle.std.specs.Prelude.{◌≡◌, ℕ, ◌+◌, ◌≤◌, List, [], ◌∷◌, ◌++◌, length, All, Option, Some, None, MatchOption, Bool, true, false}
+-- What the engine keeps, as a state of the machine, over a journal.
+use Rattle.std.specs.Prelude.{◌≡◌, ℕ, ◌+◌, ◌*◌, ◌≤◌, ◌⊎◌, List, [], ◌∷◌, ◌++◌, length, All, Option, Some, None, MatchOption, Bool, true, false, IsTrue}
+use Rattle.std.specs.List.{sum_by, AllZip}
 use Rattle.prolog_terms.specs.Tree.{Tree}
 use Rattle.prolog_terms.specs.declared.entry.Clause.{Clause}
-use Rattle.journal_base.specs.Keys.{GoalKeys, keys}
-use Rattle.journal_base.specs.Journal.{Journal}
-use Rattle.wam_machine.specs.Scan.{clauses_from, Finds}
+use Rattle.journal_base.specs.Calls.{Goal}
+use Rattle.journal_base.specs.Journal.{Journal, clause_named}
+use Rattle.journal_base.specs.Looks.{most_raised, scans_of, kept_of, wants_of}
+use Rattle.journal_base.specs.View.{View, IsSound, Out, none_out, opened}
+use Rattle.journal_base.specs.declared.cause.How.{How}
+use Rattle.journal_base.specs.declared.tally.Tally.{Tally}
+use Rattle.wam_machine.specs.Cursors.{Begins, goal_of, part, clauses_left, visits_left, AreNamed}
 use Rattle.wam_machine.specs.Machine as spec
-use Rattle.wam_machine.specs.Machine.{State, Setting, Outcome, Goes, Ends, Look, Clauses, Going, Failing, Raising, move, goal_move, control_of, Report, Runs, beginning}
-use Rattle.wam_machine.specs.Runs.{over_all}
+use Rattle.wam_machine.specs.Machine.{State, Setting, Outcome, Goes, Ends, Look, Clauses, Going, Failing, Raising, move, goal_move, control_of, trying, made_all, Report, Runs, beginning}
+use Rattle.wam_machine.specs.Runs.{IsFairLook, allowances}
 use Rattle.wam_machine.specs.declared.run.Event.{Event}
+use Rattle.wam_machine.specs.declared.run.Run.{Run}
 use Rattle.wam_machine.specs.declared.run.RunEnd.{RunEnd}
-use Rattle.wam_machine.specs.declared.machine.Mode.{Mode}
-use Rattle.wam_machine.specs.declared.machine.Mode.TheVariants.{Going as IsGoing, Failing as IsFailing, Raising as RaisingBall}
-use Rattle.wam_machine.specs.declared.machine.Pending.{Pending}
-use Rattle.wam_machine.specs.declared.machine.Choice.{Choice}
-use Rattle.wam_machine.specs.declared.machine.Machine.{Machine}
+use Rattle.wam_machine.specs.declared.choice.Choice.{Choice}
+use Rattle.wam_machine.specs.declared.state.Mode.{Mode}
+use Rattle.wam_machine.specs.declared.state.Mode.TheVariants.{Going as IsGoing, Failing as IsFailing, Raising as RaisingBall}
+use Rattle.wam_machine.specs.declared.state.Pending.{Pending}
+use Rattle.wam_machine.specs.declared.state.Machine.{Machine}
+use Rattle.wam_machine.specs.declared.state.Host.{Host}
+
+abbrev pub setting : Host → Journal → Setting
+setting h j = record { engine = h.engine; journal = j; start = h.start; budget = h.budget }
+
+-- ---- states
 
 -- the newest first
 abbrev pub newest : {A B : Type 0} → (A → B) → List A → List B → List B
 newest f [] onto = onto
 newest f (x ∷ xs) onto = newest f xs (f x ∷ onto)
 
-abbrev pub goal_of : Pending → Tree
-goal_of p = p.goal.now
-
-abbrev pub choice_of : Journal → Choice → spec.Choice
-choice_of J c = record {
-  what = Clauses c.call.goal.now (clauses_from J c.call.procedure (keys c.call.goal.now) c.next);
-  goals = newest goal_of c.goals.items [];
-}
+abbrev pub goals_of : Option Pending → List Tree
+goals_of None = []
+goals_of (Some p) = p.goal ∷ []
 
 abbrev pub mode_of : Mode → spec.Mode
 mode_of IsGoing = Going
 mode_of IsFailing = Failing
 mode_of (RaisingBall ball) = Raising ball
 
-abbrev pub state_from : Journal → Mode → List Pending → List Choice → ℕ → List Event → List Look → List ℕ → State
-state_from J mode goals stack steps events looks fronts = record {
-  mode = mode_of mode;
-  goals = newest goal_of goals [];
-  stack = newest (choice_of J) stack [];
+-- a call with clauses left; no goal comes after it
+abbrev pub choice_of : {C : Type 0} → (C → Goal → Journal → List ℕ) → (C → ℕ) → Journal → Choice C → spec.Choice
+choice_of rest at j c = record { what = Clauses c.goal (clauses_left rest at j c); goals = [] }
+
+abbrev pub state_from : List Tree → List spec.Choice → spec.Mode → ℕ → List Event → ℕ → List Look → ℕ → List ℕ → State
+state_from goals stack mode steps events front looks tried fronts = record {
+  mode = mode;
+  goals = goals;
+  stack = stack;
   steps = steps;
   events = events;
   looks = looks;
-  front = length J;
+  tried = tried;
+  front = front;
   fronts = fronts;
 }
 
--- the machine's state after these looks, with these fronts still to come
-abbrev pub state_of : Journal → Machine → List Look → List ℕ → State
-state_of J m looks fronts = state_from J m.mode m.goals.items m.stack.items m.steps m.events.items looks fronts
+abbrev pub stack_of : {C : Type 0} → (C → Goal → Journal → List ℕ) → (C → ℕ) → Journal → List (Choice C) → List spec.Choice
+stack_of rest at j cs = newest (choice_of rest at j) cs []
 
--- each choice's next clause is one that its call tries
-abbrev pub IsNext : Journal → Choice → Type 0
-IsNext J c = Finds J c.call.procedure (keys c.call.goal.now) c.next c.next
+-- the machine's state after these looks and so many clauses tried, with these fronts still to come
+abbrev pub state_of : {C : Type 0} → (C → Goal → Journal → List ℕ) → (C → ℕ) → Journal → Machine C → List Look → ℕ → List ℕ → State
+state_of rest at j m looks tried fronts =
+    state_from (goals_of m.goal) (stack_of rest at j m.stack.items) (mode_of m.mode) m.steps m.events.items m.front looks tried fronts
 
--- what an engine keeps from move to move
-pub record IsHeld (J : Journal) (budget : ℕ) (m : Machine) : Type 0 where
-  pub within : m.steps ≤ budget
-  pub looks : m.tally.looks ≤ m.steps
-  pub scans : m.tally.scans ≡ m.tally.looks
-  pub choices : All (IsNext J) m.stack.items
+-- ---- cursors
 
--- a function of states goes on from the old machine to the new one, which took these fronts and looks
-pub record GoesOn (f : State → Outcome) (J : Journal) (old new : Machine) : Type 0 where
+-- so many cursors are out, with those of these calls
+abbrev pub all_out : {C : Type 0} → (C → ℕ) → Out → List (Choice C) → Out
+all_out group o [] = o
+all_out group o (c ∷ cs) = all_out group (opened (group c.cursor) o) cs
+
+-- each call's cursor may be used, and no other cursor is out
+pub record AreKept {C : Type 0} (serves : C → Goal → Type 0) (group : C → ℕ) (out : Out) (calls : List (Choice C)) : Type 0 where
+  pub serve : All (λ c. serves c.cursor (goal_of c)) calls
+  pub out_is : out ≡ all_out group none_out calls
+
+-- ---- counts
+
+abbrev pub all_visits : {C : Type 0} → (C → Goal → Journal → ℕ) → (C → ℕ) → Journal → List (Choice C) → ℕ
+all_visits may at j cs = sum_by (visits_left may at j) cs
+
+abbrev pub aheads : {C : Type 0} → (C → ℕ) → List (Choice C) → ℕ
+aheads ahead cs = sum_by (λ c. ahead c.cursor) cs
+
+-- what an engine keeps from move to move: its counts are within its steps
+pub record IsHeld (budget seen steps front calls : ℕ) (t : Tally) : Type 0 where
+  pub within : steps ≤ budget
+  pub few : calls ≤ t.looks
+  pub reached : front ≤ seen
+  pub looks : t.looks ≤ steps
+  pub scans : t.scans ≤ t.looks
+  pub kept : t.kept ≤ t.looks
+  pub wants : t.wants ≤ t.looks
+  pub built : t.built ≤ t.looks * most_raised
+  pub indexes : t.indexes ≤ t.looks * most_raised
+
+-- the same over a journal: the clauses that are left have names, and the visits still to come are within the counts
+pub record IsHeldIn {C : Type 0} (rest : C → Goal → Journal → List ℕ) (may : C → Goal → Journal → ℕ) (at : C → ℕ) (j : Journal) (t : Tally) (calls : List (Choice C)) : Type 0 where
+  pub named : All (AreNamed rest at j) calls
+  pub raised : t.visits + all_visits may at j calls ≤ t.looks * most_raised
+
+-- the engine is ready for a move
+pub record IsReady {C : Type 0} (v : View) (serves : C → Goal → Type 0) (group : C → ℕ) (out : Out) (rest : C → Goal → Journal → List ℕ) (may : C → Goal → Journal → ℕ) (at : C → ℕ)
+    (budget : ℕ) (m : Machine C) : Type 0 where
+  pub sound : IsSound v
+  pub kept : AreKept serves group out m.stack.items
+  pub held : IsHeld budget v.seen m.steps m.front (length m.stack.items) m.tally
+  pub each : (j : Journal) → Begins v j → IsHeldIn rest may at j m.tally m.stack.items
+
+-- what was done between two moments, over a journal: looks, how each was made, and how many clauses were tried
+pub record Works {C : Type 0} (may : C → Goal → Journal → ℕ) (at : C → ℕ) (ahead : C → ℕ) (causes : List ℕ) (j : Journal)
+    (old new : Tally) (before after : List (Choice C)) (looked : List Look) (hows : List How) (given : ℕ) : Type 0 where
+  pub fair : AllZip (IsFairLook causes j) looked hows
+  pub looks : new.looks ≡ old.looks + length looked
+  pub scans : new.scans ≡ old.scans + sum_by scans_of hows
+  pub kept : new.kept ≡ old.kept + sum_by kept_of hows
+  pub wants : new.wants ≡ old.wants + sum_by wants_of hows
+  pub most : new.visits + all_visits may at j after ≤ old.visits + all_visits may at j before + allowances j looked hows
+  pub least : old.visits + given + aheads ahead after ≤ new.visits + aheads ahead before
+  pub unbuilt : causes ≡ 0 ∷ [] → (new.built ≡ old.built) × (new.indexes ≡ old.indexes)
+
+-- ---- moves
+
+-- a function of states goes on from the old machine to the new one, over a journal
+pub record GoesOn {C : Type 0} (rest : C → Goal → Journal → List ℕ) (may : C → Goal → Journal → ℕ) (at : C → ℕ) (ahead : C → ℕ) (causes : List ℕ) (f : State → Outcome) (j : Journal)
+    (old new : Machine C) : Type 0 where
   pub added : List ℕ
   pub looked : List Look
+  pub hows : List How
+  pub given : ℕ
   pub fronts_are : new.fronts.items ≡ old.fronts.items ++ added
-  pub looks_are : new.tally.looks ≡ old.tally.looks + length looked
-  pub goes : (looks : List Look) (fronts : List ℕ) → f (state_of J old looks (added ++ fronts)) ≡ Goes (state_of J new (looks ++ looked) fronts)
+  pub goes : (looks : List Look) (tried : ℕ) (fronts : List ℕ) → f (state_of rest at j old looks tried (added ++ fronts)) ≡ Goes (state_of rest at j new (looks ++ looked) (tried + given) fronts)
+  pub works : Works may at ahead causes j old.tally new.tally old.stack.items new.stack.items looked hows given
+  pub held : IsHeldIn rest may at j new.tally new.stack.items
 
--- the function of states ends the run
-pub record ComesToEnd (f : State → Outcome) (J : Journal) (old new : Machine) (end : RunEnd) : Type 0 where
+-- the function of states ends the run, if the journal has no other entries of the engine
+pub record ComesToEnd {C : Type 0} (rest : C → Goal → Journal → List ℕ) (at : C → ℕ) (f : State → Outcome) (x : Setting) (old new : Machine C) (end : RunEnd) : Type 0 where
   pub fronts_are : new.fronts.items ≡ old.fronts.items
   pub tally_is : new.tally ≡ old.tally
-  pub ends : (looks : List Look) → f (state_of J old looks []) ≡ Ends (record { events = new.events.items; looks = looks; steps = new.steps; end = end })
+  pub ends : IsTrue (made_all x) → (looks : List Look) (tried : ℕ) → f (state_of rest at x.journal old looks tried [])
+      ≡ Ends (record { events = new.events.items; looks = looks; tried = tried; steps = new.steps; end = end })
 
-abbrev pub Does : (State → Outcome) → Journal → Machine → Machine → Option RunEnd → Type 0
-Does f J old new o = MatchOption o (GoesOn f J old new) (λ end. ComesToEnd f J old new end)
+abbrev pub Does : {C : Type 0} → (C → Goal → Journal → List ℕ) → (C → Goal → Journal → ℕ) → (C → ℕ) → (C → ℕ) → List ℕ → (State → Outcome) → Setting → Machine C → Machine C → Option RunEnd → Type 0
+Does rest may at ahead causes f x old new o = MatchOption o (GoesOn rest may at ahead causes f x.journal old new) (λ end. ComesToEnd rest at f x old new end)
 
 -- a goal's move
-abbrev pub performs_goal : Journal → ℕ → Tree → State → Outcome
-performs_goal J budget goal s = goal_move (over_all J budget) goal s (control_of goal)
+abbrev pub performs_goal : Setting → Tree → State → Outcome
+performs_goal x goal s = goal_move x goal s (control_of goal)
 
 -- a ball is raised
 abbrev pub IsRaising : Mode → Type 0
 IsRaising mode = (ball : Tree) × (mode ≡ RaisingBall ball)
 
--- one move of the machine
-abbrev pub Moves : Journal → ℕ → Machine → Machine → Option RunEnd → Type 0
-Moves J budget = Does (move (over_all J budget)) J
+-- ---- clauses that are tried
 
--- the clauses of a call from its first candidate on
-abbrev pub clauses_at : Journal → ℕ → GoalKeys → Option ℕ → List Clause
-clauses_at J p goal None = []
-clauses_at J p goal (Some k) = clauses_from J p goal k
+abbrev pub settled_mode : Bool → Mode
+settled_mode true = IsGoing
+settled_mode false = IsFailing
 
--- the candidate is one
-abbrev pub IsFirst : Journal → ℕ → GoalKeys → Option ℕ → Type 0
-IsFirst J p goal None = Unit {0}
-IsFirst J p goal (Some k) = Finds J p goal k k
+-- the first clause that is left of a call is tried, over a journal
+pub record Tries {C : Type 0} (rest : C → Goal → Journal → List ℕ) (may : C → Goal → Journal → ℕ) (at : C → ℕ) (ahead : C → ℕ) (j : Journal) (c : Choice C) (old new : Machine C) : Type 0 where
+  pub given : ℕ
+  pub tried : (looks : List Look) (tried : ℕ) (fronts : List ℕ) → trying c.goal (clauses_left rest at j c) (state_of rest at j old looks tried fronts) ≡ Goes (state_of rest at j new looks (tried + given) fronts)
+  pub most : new.tally.visits + all_visits may at j new.stack.items ≤ old.tally.visits + all_visits may at j (old.stack.items ++ c ∷ [])
+  pub least : old.tally.visits + given + aheads ahead new.stack.items ≤ new.tally.visits + aheads ahead (old.stack.items ++ c ∷ [])
+  pub named : All (AreNamed rest at j) new.stack.items
 
--- nothing was done but to the goals, the mode and the stack
-pub record KeepsCounts (old new : Machine) : Type 0 where
+-- a clause of a call, by its name, is tried before those that are left, over a journal
+pub record Attempts {C : Type 0} (rest : C → Goal → Journal → List ℕ) (may : C → Goal → Journal → ℕ) (at : C → ℕ) (j : Journal) (name : ℕ) (c : Choice C) (old new : Machine C) : Type 0 where
+  pub clause : Clause
+  pub clause_is : clause_named (part at j c) name ≡ Some clause
+  pub tried : (looks : List Look) (tried : ℕ) (fronts : List ℕ) → trying c.goal (clause ∷ clauses_left rest at j c) (state_of rest at j old looks tried fronts) ≡ Goes (state_of rest at j new looks (tried + 1) fronts)
+
+-- the stack is as it was, or the call lies on it
+abbrev pub IsPushed : {C : Type 0} → Choice C → List (Choice C) → List (Choice C) → Type 0
+IsPushed c old new = (new ≡ old) ⊎ (new ≡ old ++ c ∷ [])
+
+-- nothing was done but to the goal, the mode, the stack, the names and the count of visits
+pub record KeepsCounts {C : Type 0} (old new : Machine C) : Type 0 where
   pub steps : new.steps ≡ old.steps
   pub events : new.events.items ≡ old.events.items
+  pub front : new.front ≡ old.front
   pub fronts : new.fronts.items ≡ old.fronts.items
-  pub tally : new.tally ≡ old.tally
+  pub tally : new.tally ≡ record old.tally { visits = new.tally.visits }
 
-abbrev pub settled : Bool → Mode
-settled true = IsGoing
-settled false = IsFailing
+-- ---- whole runs
 
--- one choice more is left, and the mode is settled
-pub record Leaves (old new : Machine) (goal : Tree) (procedure next : ℕ) (same : Bool) : Type 0 where
-  pub choice : Choice
-  pub goal_is : choice.call.goal.now ≡ goal
-  pub procedure_is : choice.call.procedure ≡ procedure
-  pub next_is : choice.next ≡ next
-  pub goals_are : choice.goals.items ≡ old.goals.items
-  pub stack_is : new.stack.items ≡ old.stack.items ++ choice ∷ []
-  pub mode_is : new.mode ≡ settled same
-  pub goals_kept : new.goals.items ≡ old.goals.items
-  pub counts : KeepsCounts old new
+abbrev pub no_tally : Tally
+no_tally = record { looks = 0; scans = 0; kept = 0; wants = 0; visits = 0; built = 0; indexes = 0 }
 
--- whichever fronts come, a run from the machine's state on is the rest of a run of the goal from the beginning, which took the machine's fronts
-pub record IsLed (J : Journal) (budget : ℕ) (goal : Tree) (m : Machine) : Type 0 where
+-- the machine before its first move
+pub record IsBeginning {C : Type 0} (goal : Tree) (start : ℕ) (m : Machine C) : Type 0 where
+  pub mode : m.mode ≡ IsGoing
+  pub goal_is : goals_of m.goal ≡ goal ∷ []
+  pub stack : m.stack.items ≡ []
+  pub steps : m.steps ≡ 0
+  pub events : m.events.items ≡ []
+  pub front : m.front ≡ start
+  pub fronts : m.fronts.items ≡ []
+  pub tally : m.tally ≡ no_tally
+
+-- what the machine did, as a run
+abbrev pub run_of : {C : Type 0} → ℕ → Machine C → RunEnd → Run
+run_of engine m end = record { engine = engine; line = 0; transcript = m.events.items; fronts = m.fronts.items; tally = m.tally; steps = m.steps; end = end }
+
+-- Whichever fronts come, a run from the machine's state on is the rest of a run of the goal from the beginning, which took the
+-- machine's fronts.
+pub record IsLed {C : Type 0} (rest : C → Goal → Journal → List ℕ) (may : C → Goal → Journal → ℕ) (at : C → ℕ) (ahead : C → ℕ) (causes : List ℕ) (x : Setting) (goal : Tree) (m : Machine C) : Type 0 where
   pub looks : List Look
-  pub counted : m.tally.looks ≡ length looks
-  pub leads : (fronts : List ℕ) (r : Report) → Runs (over_all J budget) (state_of J m looks fronts) r → Runs (over_all J budget) (beginning (over_all J budget) goal (m.fronts.items ++ fronts)) r
+  pub hows : List How
+  pub tried : ℕ
+  pub leads : (fronts : List ℕ) (r : Report) → Runs x (state_of rest at x.journal m looks tried fronts) r → Runs x (beginning x goal (m.fronts.items ++ fronts)) r
+  pub works : Works may at ahead causes x.journal no_tally m.tally [] m.stack.items looks hows tried

@@ -1,52 +1,47 @@
 // The engine.
-ghost use Rattle.std.specs.Prelude.{◌≡◌, ◌≤◌, ◌^◌, IfOk, IfErr};
-ghost use Rattle.wam_machine.specs.Facts.{IsCallable};
+ghost use Rattle.std.specs.Prelude.{◌≡◌, ◌≤◌, ◌^◌, IfOk, IfErr, IsTrue, is_some};
+ghost use Rattle.prolog_terms.specs.Indicators.{indicator_of};
+ghost use Rattle.journal_base.specs.View.{Looks, none_out};
 ghost use Rattle.wam_machine.specs.Runs.{IsRunOf};
 
-use crate::list::EntryList;
-use crate::machine::{Host, Machine};
 use crate::run::{Events, Fronts, Goal, Run, RunEnd};
-use journal_base::{Gate, Tally};
-use prolog_terms::{Ops, Want};
+use crate::running::run;
+use journal_base::{Base, Gate, Tally};
+use prolog_terms::Ops;
 use std::alloc::Global;
-use std::marker::Model;
 use std::sync::Wait;
 
-/// An engine over a list of entries, with an operator table. Contracts see what the list holds.
+/// An engine over a base, with an operator table.
 #[derive(Drop)]
-pub struct Engine {
-    list: EntryList,
+pub struct Engine<B: Base> {
+    base: B,
     ops: Ops,
     alloc: Global,
 }
 
-impl Model for Engine {
-    ghost use Rattle.wam_machine.specs.Facts.{Holding, holding_code};
-
-    ghost Value = { Holding };
-
-    ghost coded = { holding_code };
-
-    ghost view = { λ e. e.list };
-}
-
-impl Engine {
-    /// An engine over this list; for want of memory the list is handed back.
-    pub fn new(alloc: Global, list: EntryList, ops: Ops) -> Result<Engine, EntryList>
-        ensures ok { IfOk result (λ e. e ≡ list) }
-        ensures err { IfErr result (λ l. l ≡ list) }
+impl<B: Base> Engine<B> {
+    /// An engine over this base; for want of memory the base is handed back.
+    pub fn new(alloc: Global, base: B, ops: Ops) -> Result<Engine<B>, B>
+        ensures ok { IfOk result (λ e. e.base ≡ base) }
+        ensures ops { IfOk result (λ e. e.ops ≡ ops) }
+        ensures err { IfErr result (λ b. b ≡ base) }
     {
-        Ok(Engine { list, ops, alloc })
+        Ok(Engine { base, ops, alloc })
     }
 
-    /// Runs a goal, of so many steps at most, and passes the gate before each look.
+    /// Runs a goal, of so many steps at most, and passes the gate before each look. No cursor of the base may be out, and
+    /// none is out afterwards. The run adds no entry of its engine to the journal.
     pub fn solve<R: Wait, G: Gate>(&mut self, rt: &R, goal: &Goal, budget: u64, gate: &G) -> Run
-        requires goal { IsCallable goal.now.term }
+        requires goal { IsTrue (is_some (indicator_of goal.now.term)) }
         requires budget { (1 ≤ budget) × (budget ≤ 10 ^ 11) }
-        ensures run { IsRunOf self.old.number self.old.journal goal.now.term budget result }
-        ensures same { self.new ≡ self.old }
+        requires out { B.out self.old.base ≡ none_out }
+        ensures run { IsRunOf (B.view self.new.base) (B.view self.old.base).seen budget goal.now.term result }
+        ensures seen { Looks (B.view self.old.base) (B.view self.new.base) }
+        ensures becomes { B.becomes self.old.base self.new.base }
+        ensures out { B.out self.new.base ≡ none_out }
+        ensures ops { self.new.ops ≡ self.old.ops }
     {
-        match run(&self.list, self.alloc, rt, goal, budget, gate) {
+        match run(&mut self.base, self.alloc, rt, goal, budget, gate) {
             Ok(run) => run,
             Err(_) => self.wanted(),
         }
@@ -54,12 +49,14 @@ impl Engine {
 
     /// The run that wanted memory.
     fn wanted(&self) -> Run
-        ensures engine { result.engine ≡ self.now.number }
+        ensures engine { result.engine ≡ (B.view self.now.base).number }
+        ensures line { result.line ≡ 0 }
         ensures steps { result.steps ≡ 0 }
         ensures end { result.end ≡ RunEnd.Want }
     {
         Run {
-            engine: self.list.number(),
+            engine: self.base.number(),
+            line: 0,
             transcript: Events::of(Vec::new(self.alloc)),
             fronts: Fronts::of(Vec::new(self.alloc)),
             tally: Tally::new(),
@@ -68,37 +65,10 @@ impl Engine {
         }
     }
 
-    /// The list, handed back.
-    pub fn into_base(self) -> EntryList
-        ensures { result ≡ self }
+    /// The base, handed back.
+    pub fn into_base(self) -> B
+        ensures { result ≡ self.base }
     {
-        self.list
+        self.base
     }
-}
-
-/// Moves the machine from the goal on until the run ends.
-fn run<R: Wait, G: Gate>(
-    list: &EntryList,
-    alloc: Global,
-    rt: &R,
-    goal: &Goal,
-    budget: u64,
-    gate: &G,
-) -> Result<Run, Want>
-    requires goal { IsCallable goal.now.term }
-    requires budget { budget ≤ 10 ^ 11 }
-    ensures { IfOk result (IsRunOf list.now.number list.now.journal goal.now.term budget) }
-{
-    let host = Host {
-        list,
-        alloc,
-        budget,
-    };
-    let mut machine = Machine::at(alloc, &goal.term)?;
-    for _ in rt.forever() {
-        if let Some(end) = machine.advance(&host, rt, gate)? {
-            return Ok(machine.into_run(list.number(), end));
-        }
-    }
-    unreachable!()
 }

@@ -1,16 +1,15 @@
-//! The machine: it runs a goal over the clauses of a journal.
+//! The machine: it runs a goal over the clauses of a base.
 #![tactic(auto)]
 
+mod choice;
+mod cursor;
 mod engine;
-mod head;
 mod law;
-mod list;
 mod machine;
 mod run;
-mod seek;
-mod walk;
+mod running;
+mod state;
 
 pub use engine::Engine;
 pub use law::transcript;
-pub use list::EntryList;
 pub use run::{Event, Events, Fronts, Goal, Run, RunEnd};

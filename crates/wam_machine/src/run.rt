@@ -98,6 +98,8 @@ impl Fronts {
 pub struct Run {
     /// The engine that ran it, counted from 1 in the order of the goals; 0 is the load's.
     pub engine: u32,
+    /// The line of the text in which its read-term begins; 0 for a goal of the command line.
+    pub line: u64,
     /// What happened, in order.
     pub transcript: Events,
     /// The journal's length at each call of a procedure, in order.

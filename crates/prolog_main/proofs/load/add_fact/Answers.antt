@@ -1,15 +1,21 @@
-use Rattle.std.proofs.Common.{◌≡◌, subst, OnOk}
-use Rattle.wam_machine.specs.Facts.{Holding}
-use Rattle.prolog_main.proofs.Facts.{may_hold}
+use Rattle.std.proofs.Common.{subst}
+use Rattle.prolog_main.specs.Bases.{HasProcedure}
+use Rattle.prolog_main.proofs.Placing.{may_be_added, adds_done, adds_full}
 use Rattle.prolog_main.proofs.load.add_fact.Goals as goal
 
-pub add-requires-clause-permitted : goal.add-requires-clause-permitted
-add-requires-clause-permitted c =
-    (may_hold c.args.list.now.journal c.args.indicator.now _ _ _ _ c.in_ok-procedure.ensures.list c.in_ok-procedure.ensures.number
-    c.requires.indicator c.requires.ground c.in_ok-body.ensures).may
+pub add-requires : goal.add-requires
+add-requires g c =
+    let h = subst (HasProcedure c.args.base.now c.procedure.new.base c.args.indicator.now) c.in-Some.is c.in_ok-procedure.ensures in
+    may_be_added c.args.base.now _ c.args.indicator.now _ _ _ c.in_ok-body.ensures c.requires.load h c.requires.indicator c.requires.numbered
 
-pub returns : goal.returns
-returns c =
-    let m = may_hold c.args.list.now.journal c.args.indicator.now c.procedure.new.list c.in_ok-procedure.procedure c.args.head c.in_ok-body.body
-    c.in_ok-procedure.ensures.list c.in_ok-procedure.ensures.number c.requires.indicator c.requires.ground c.in_ok-body.ensures in
-    subst (λ (h : Holding). OnOk c.add.result (c.add.new.self ≡ h)) m.held c.add.ensures.ok
+pub returns-in-Done : goal.returns-in-Done
+returns-in-Done g c =
+    let h = subst (HasProcedure c.args.base.now c.procedure.new.base c.args.indicator.now) c.in-Some.is c.in_ok-procedure.ensures in
+    let a = c.in-Done.ensures in
+    adds_done c.args.base.now c.procedure.new.base c.add.new.self c.args.indicator.now _ _ _ _ c.in_ok-body.ensures c.requires.load h a.becomes a.out a.added
+
+pub returns-in-Full : goal.returns-in-Full
+returns-in-Full g c =
+    let h = subst (HasProcedure c.args.base.now c.procedure.new.base c.args.indicator.now) c.in-Some.is c.in_ok-procedure.ensures in
+    let a = c.in-Full.ensures in
+    adds_full c.args.base.now c.procedure.new.base c.add.new.self c.args.indicator.now _ _ _ _ _ _ c.in_ok-body.ensures h a.becomes a.out a.added

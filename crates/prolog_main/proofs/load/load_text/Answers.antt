@@ -1,45 +1,59 @@
-use Rattle.std.proofs.Common.{◌∙◌, ◌<◌, sym, ap, subst}
+use Rattle.std.proofs.Common.{◌∙◌, ◌<◌, sym, subst}
 use Rattle.prolog_reader.specs.Streams.{Stream, ahead}
 use Rattle.prolog_reader.specs.Texts.{size}
-use Rattle.prolog_main.specs.Load.{Loaded, journal_of, refusal_of}
-use Rattle.prolog_main.proofs.Loads.{load-fact, load-refused, load-end, loading-on, loaded-whole}
+use Rattle.prolog_main.specs.Load.{load_of, refusal_of}
+use Rattle.prolog_main.proofs.Loads.{loaded_in, load-fact, load-refused, load-end, refused-refused, refused-end, loading-on, loaded-base, loaded-runs}
 use Rattle.prolog_main.proofs.load.load_text.Goals as goal
 
-pub add_fact-requires-clause-ground : goal.add_fact-requires-clause-ground
-add_fact-requires-clause-ground c =
-    (load-fact c.parts.list.journal (ahead c.parts.lexer) _ _ (sym c.in-Fact.is ∙ c.in_ok-indicator.ensures.part)).ground
+pub add_fact-requires-clause-numbered : goal.add_fact-requires-clause-numbered
+add_fact-requires-clause-numbered g c =
+    (load-fact (ahead c.parts.lexer) _ _ _ (sym c.in-Fact.is ∙ c.in_ok-line.ensures.part)).numbered
 
 pub add_fact-requires-clause-indicator : goal.add_fact-requires-clause-indicator
-add_fact-requires-clause-indicator c =
-    (load-fact c.parts.list.journal (ahead c.parts.lexer) _ _ (sym c.in-Fact.is ∙ c.in_ok-indicator.ensures.part)).named
+add_fact-requires-clause-indicator g c =
+    (load-fact (ahead c.parts.lexer) _ _ _ (sym c.in-Fact.is ∙ c.in_ok-line.ensures.part)).named
 
 pub parts-smaller : goal.parts-smaller
-parts-smaller c =
-    subst (λ (x : Stream). size x < size (ahead c.parts.lexer)) (sym c.in_ok-indicator.ensures.rest)
-    (load-fact c.parts.list.journal (ahead c.parts.lexer) _ _ (sym c.in-Fact.is ∙ c.in_ok-indicator.ensures.part)).shorter
+parts-smaller g c =
+    subst (λ (x : Stream). size x < size (ahead c.parts.lexer)) (sym c.in_ok-line.ensures.rest)
+    (load-fact (ahead c.parts.lexer) _ _ _ (sym c.in-Fact.is ∙ c.in_ok-line.ensures.part)).shorter
 
 pub parts-preserved : goal.parts-preserved
-parts-preserved c =
-    loading-on _ _ _ _ _ _ _ c.parts.invariant (sym c.in-Fact.is ∙ c.in_ok-indicator.ensures.part) c.in_ok-indicator.ensures.rest c.in_ok-add_fact-in-Fact.ensures
+parts-preserved g c =
+    loading-on c.args.sizes c.parts.base c.add_fact.new.base c.parts.runs c.add_run.new.runs (ahead c.parts.lexer) (ahead c.next_part.new.lexer) c.args.text.now
+    c.in-Fact.line c.in-Fact.indicator c.in-Fact.head c.in_ok-fits-in-Fact.fits c.parts.invariant (sym c.in-Fact.is ∙ c.in_ok-line.ensures.part)
+    c.in_ok-line.ensures.rest c.in_ok-fits-in-Fact.ensures c.in_ok-add_run-in-Fact.ensures
 
-pub returns-in-Refused-clause-list : goal.returns-in-Refused-clause-list
-unfolding journal_of
-returns-in-Refused-clause-list c =
-    loaded-whole _ _ _ _ c.parts.invariant (load-refused c.parts.list.journal (ahead c.parts.lexer) _ (sym c.in-Refused.is ∙ c.in_ok-indicator.ensures.part))
+pub returns-in-Refused-clause-base : goal.returns-in-Refused-clause-base
+unfolding load_of
+returns-in-Refused-clause-base g c =
+    loaded-base c.args.sizes c.parts.base c.parts.runs (ahead c.parts.lexer) c.args.text.now c.parts.invariant
+    (load-refused c.args.sizes (loaded_in c.parts.base c.parts.runs) (ahead c.parts.lexer) _ (sym c.in-Refused.is ∙ c.in_ok-line.ensures.part))
+
+pub returns-in-Refused-clause-runs : goal.returns-in-Refused-clause-runs
+unfolding load_of
+returns-in-Refused-clause-runs g c =
+    loaded-runs c.args.sizes c.parts.base c.parts.runs (ahead c.parts.lexer) c.args.text.now c.parts.invariant
+    (load-refused c.args.sizes (loaded_in c.parts.base c.parts.runs) (ahead c.parts.lexer) _ (sym c.in-Refused.is ∙ c.in_ok-line.ensures.part))
 
 pub returns-in-Refused-clause-refused : goal.returns-in-Refused-clause-refused
 unfolding refusal_of
-returns-in-Refused-clause-refused c =
-    ap (λ (x : Loaded). x.refused)
-    (sym (load-refused c.parts.list.journal (ahead c.parts.lexer) _ (sym c.in-Refused.is ∙ c.in_ok-indicator.ensures.part)) ∙ c.parts.invariant.loads)
+returns-in-Refused-clause-refused g c =
+    sym (refused-refused (ahead c.parts.lexer) _ (sym c.in-Refused.is ∙ c.in_ok-line.ensures.part)) ∙ c.parts.invariant.refuses
 
-pub returns-in-End-clause-list : goal.returns-in-End-clause-list
-unfolding journal_of
-returns-in-End-clause-list c =
-    loaded-whole _ _ _ _ c.parts.invariant (load-end c.parts.list.journal (ahead c.parts.lexer) (sym c.in-End.is ∙ c.in_ok-indicator.ensures.part))
+pub returns-in-End-clause-base : goal.returns-in-End-clause-base
+unfolding load_of
+returns-in-End-clause-base g c =
+    loaded-base c.args.sizes c.parts.base c.parts.runs (ahead c.parts.lexer) c.args.text.now c.parts.invariant
+    (load-end c.args.sizes (loaded_in c.parts.base c.parts.runs) (ahead c.parts.lexer) (sym c.in-End.is ∙ c.in_ok-line.ensures.part))
+
+pub returns-in-End-clause-runs : goal.returns-in-End-clause-runs
+unfolding load_of
+returns-in-End-clause-runs g c =
+    loaded-runs c.args.sizes c.parts.base c.parts.runs (ahead c.parts.lexer) c.args.text.now c.parts.invariant
+    (load-end c.args.sizes (loaded_in c.parts.base c.parts.runs) (ahead c.parts.lexer) (sym c.in-End.is ∙ c.in_ok-line.ensures.part))
 
 pub returns-in-End-clause-refused : goal.returns-in-End-clause-refused
 unfolding refusal_of
-returns-in-End-clause-refused c =
-    ap (λ (x : Loaded). x.refused)
-    (sym (load-end c.parts.list.journal (ahead c.parts.lexer) (sym c.in-End.is ∙ c.in_ok-indicator.ensures.part)) ∙ c.parts.invariant.loads)
+returns-in-End-clause-refused g c =
+    sym (refused-end (ahead c.parts.lexer) (sym c.in-End.is ∙ c.in_ok-line.ensures.part)) ∙ c.parts.invariant.refuses

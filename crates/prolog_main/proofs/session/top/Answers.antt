@@ -1,20 +1,21 @@
-use Rattle.std.proofs.Common.{◌∙◌, sym, subst, arith, List, ℕ}
+use Rattle.std.proofs.Common.{◌≡◌, ◌∙◌, sym, subst, arith, List, ℕ}
 use Rattle.std.specs.Prelude.{Any, All, IfSome, map, string_bytes}
 use Rattle.journal_base.specs.Journal.{Journal}
 use Rattle.journal_base.specs.Legal.{Legal}
 use Rattle.wam_machine.specs.declared.run.Run.{Run}
 use Rattle.prolog_main.specs.FaultCounts.{Rose}
 use Rattle.prolog_main.specs.Words.{command_of}
-use Rattle.prolog_main.specs.Runs.{EndsInBall, EndsSpent}
-use Rattle.prolog_main.specs.Headline.{Ends, expected, IsLoaded, IsEmpty, IsStatus, HasRefused}
+use Rattle.prolog_main.specs.Load.{load_runs_of}
+use Rattle.prolog_main.specs.Runs.{step_budget, AreRunsBehind, EndsInBall, EndsSpent}
+use Rattle.prolog_main.specs.Headline.{Ends, expected, HasRuns, IsLoaded, IsEmpty, IsStatus, HasRun, HasRefused}
 use Rattle.prolog_main.specs.Ends.{final_runs}
 use Rattle.prolog_main.proofs.Rows.{bad_words_row, source_row, too_long_row, refused_row, sink_row, ball_row, spent_row, exhausted_row}
-use Rattle.prolog_main.proofs.Outcomes.{no_runs_row, empty_row, legal_row, text_row, shown_bad_words, shown_source, shown_too_long, in_part_row, complete_row, unread_row, too_long_read_row, wanted_row, statuses_row}
+use Rattle.prolog_main.proofs.Outcomes.{load_runs_row, ran_row, runs_told, empty_row, legal_row, text_row, shown_bad_words, shown_source, shown_too_long, in_part_row, complete_row, unread_row, too_long_read_row, wanted_row, statuses_row}
 use Rattle.prolog_main.proofs.session.top.Goals as goal
 
 pub returns-clause-bad_words : goal.returns-clause-bad_words
 returns-clause-bad_words g c = let f = c.finish.ensures.finishes in λ e.
-    bad_words_row _ _ _ _ f.written c.prepare-prepared.ensures.prepares (sym f.status_is ∙ e)
+    bad_words_row _ _ _ _ _ f.written c.prepare-prepared.ensures.prepares (sym f.status_is ∙ e)
 
 pub returns-clause-source_failed : goal.returns-clause-source_failed
 returns-clause-source_failed g c = let f = c.finish.ensures.finishes in λ e.
@@ -22,11 +23,11 @@ returns-clause-source_failed g c = let f = c.finish.ensures.finishes in λ e.
 
 pub returns-clause-too_long : goal.returns-clause-too_long
 returns-clause-too_long g c = let f = c.finish.ensures.finishes in λ e.
-    too_long_row _ _ _ _ f.written c.prepare-prepared.ensures.prepares (sym f.status_is ∙ e)
+    too_long_row _ _ _ _ _ f.written c.prepare-prepared.ensures.prepares (sym f.status_is ∙ e)
 
 pub returns-clause-refused : goal.returns-clause-refused
 returns-clause-refused g c = let f = c.finish.ensures.finishes in λ e.
-    refused_row _ _ _ _ f.written c.prepare-prepared.ensures.prepares (sym f.status_is ∙ e)
+    refused_row _ _ _ _ _ f.written c.prepare-prepared.ensures.prepares (sym f.status_is ∙ e)
 
 pub returns-clause-sink_failed : goal.returns-clause-sink_failed
 returns-clause-sink_failed g c = let f = c.finish.ensures.finishes in λ e.
@@ -47,7 +48,7 @@ returns-clause-exhausted g c = let f = c.finish.ensures.finishes in λ e.
 
 pub returns-clause-complete : goal.returns-clause-complete
 returns-clause-complete g c = let f = c.finish.ensures.finishes in
-    let row = complete_row _ _ _ _ _ _ f.written c.prepare-prepared.ensures.prepares c.prepare-prepared.ensures.failed f.cut in
+    let row = complete_row _ _ _ _ _ _ _ f.written c.prepare-prepared.ensures.prepares c.prepare-prepared.ensures.failed f.cut in
     let Of : List Run → ℕ → Type 0 = λ runs k. IfSome (g.S.Source.left c.args.source.now) (λ text. Ends (expected (command_of (map string_bytes c.args.words.now)) text runs)
     (Rose (g.S.Source.faults c.args.source.now) (g.S.Source.faults c.prepare-prepared.new.source))
     (Rose (g.K.Sink.faults c.args.sink.now) (g.K.Sink.faults c.finish.new.sink)) k) in
@@ -55,19 +56,38 @@ returns-clause-complete g c = let f = c.finish.ensures.finishes in
     let Q : List Run → Type 0 = λ runs. Of runs c.finish.result.status in
     subst Q (sym f.runs_are) (subst P (sym f.status_is) row)
 
+pub returns-clause-loaded : goal.returns-clause-loaded
+returns-clause-loaded g c = let f = c.finish.ensures.finishes in λ e.
+    let P : Journal → List Run → Type 0 = λ journal runs. HasRun c.args.sizes (command_of (map string_bytes c.args.words.now)) (g.S.Source.left c.args.source.now)
+    (g.S.Source.left c.prepare-prepared.new.source) journal runs in
+    let row = ran_row _ _ _ _ _ f.written c.prepare-prepared.ensures.prepares (subst HasRuns f.status_is e) in
+    subst (λ (runs : List Run). P c.finish.result.journal runs) (sym f.runs_are)
+    (subst (λ (journal : Journal). P journal (final_runs c.prepare-prepared.result f.written)) (sym f.journal_is) row)
+
+pub returns-clause-runs : goal.returns-clause-runs
+returns-clause-runs g c = let f = c.finish.ensures.finishes in λ e.
+    let P : Journal → List Run → Type 0 = λ journal runs. IfSome (g.S.Source.left c.args.source.now) (λ text. IfSome (command_of (map string_bytes c.args.words.now))
+    (λ command. AreRunsBehind step_budget (load_runs_of c.args.sizes text) command journal runs)) in
+    let row = runs_told _ _ _ _ _ _ (ran_row _ _ _ _ _ f.written c.prepare-prepared.ensures.prepares (subst HasRuns f.status_is e)) in
+    subst (λ (runs : List Run). P c.finish.result.journal runs) (sym f.runs_are)
+    (subst (λ (journal : Journal). P journal (final_runs c.prepare-prepared.result f.written)) (sym f.journal_is) row)
+
 pub returns-clause-loaded_in_part : goal.returns-clause-loaded_in_part
 returns-clause-loaded_in_part g c = let f = c.finish.ensures.finishes in λ e.
-    let P : Journal → Type 0 = λ journal. HasRefused (g.S.Source.left c.args.source.now) (g.S.Source.left c.prepare-prepared.new.source) journal
+    let P : Journal → List Run → Type 0 = λ journal runs. HasRefused c.args.sizes (g.S.Source.left c.args.source.now) (g.S.Source.left c.prepare-prepared.new.source) journal runs
     (Rose (g.K.Sink.faults c.args.sink.now) (g.K.Sink.faults c.finish.new.sink)) (g.K.Sink.written c.args.sink.now) (g.K.Sink.written c.finish.new.sink) in
-    subst P (sym f.journal_is)
-    (in_part_row _ _ _ _ _ _ _ f.written c.prepare-prepared.ensures.prepares f.prefix f.whole f.cut (sym f.status_is ∙ e))
+    let row = in_part_row _ _ _ _ _ _ _ _ f.written c.prepare-prepared.ensures.prepares f.prefix f.whole f.cut (sym f.status_is ∙ e) in
+    subst (λ (runs : List Run). P c.finish.result.journal runs) (sym f.runs_are)
+    (subst (λ (journal : Journal). P journal (final_runs c.prepare-prepared.result f.written)) (sym f.journal_is) row)
 
 pub returns-clause-legal : goal.returns-clause-legal
 returns-clause-legal g c = let f = c.finish.ensures.finishes in λ e.
-    subst Legal (sym f.journal_is) (legal_row _ _ _ _ f.written c.prepare-prepared.ensures.prepares (subst IsLoaded f.status_is e))
+    subst (Legal c.args.sizes.words c.args.sizes.updates) (sym f.journal_is) (legal_row _ _ _ _ _ f.written c.prepare-prepared.ensures.prepares (subst IsLoaded f.status_is e))
 
-pub returns-clause-no_runs : goal.returns-clause-no_runs
-returns-clause-no_runs g c = let f = c.finish.ensures.finishes in λ e. f.runs_are ∙ no_runs_row _ f.written (sym f.status_is ∙ e)
+pub returns-clause-load_runs : goal.returns-clause-load_runs
+returns-clause-load_runs g c = let f = c.finish.ensures.finishes in λ e.
+    let P : List Run → Type 0 = λ runs. IfSome (g.S.Source.left c.args.source.now) (λ text. runs ≡ load_runs_of c.args.sizes text) in
+    subst P (sym f.runs_are) (load_runs_row _ _ _ _ _ f.written c.prepare-prepared.ensures.prepares (sym f.status_is ∙ e))
 
 pub returns-clause-empty_journal : goal.returns-clause-empty_journal
 returns-clause-empty_journal g c = let f = c.finish.ensures.finishes in λ e. f.journal_is ∙ (empty_row _ f.written (subst IsEmpty f.status_is e)).0
@@ -92,15 +112,15 @@ returns-clause-too_long_text g c = let f = c.finish.ensures.finishes in λ e.
 
 pub returns-clause-wanted : goal.returns-clause-wanted
 returns-clause-wanted g c = let f = c.finish.ensures.finishes in λ e.
-    wanted_row _ _ _ _ _ _ _ c.prepare-prepared.ensures.prepares c.prepare-prepared.ensures.failed f.prefix
+    wanted_row _ _ _ _ _ _ _ _ c.prepare-prepared.ensures.prepares c.prepare-prepared.ensures.failed f.prefix
 
 pub returns-clause-unread : goal.returns-clause-unread
 returns-clause-unread g c = let f = c.finish.ensures.finishes in λ e.
-    unread_row _ _ _ _ f.written c.prepare-prepared.ensures.prepares (sym f.status_is ∙ e)
+    unread_row _ _ _ _ _ f.written c.prepare-prepared.ensures.prepares (sym f.status_is ∙ e)
 
 pub returns-clause-too_long_read : goal.returns-clause-too_long_read
 returns-clause-too_long_read g c = let f = c.finish.ensures.finishes in λ e.
-    too_long_read_row _ _ _ _ f.written c.prepare-prepared.ensures.prepares (sym f.status_is ∙ e)
+    too_long_read_row _ _ _ _ _ f.written c.prepare-prepared.ensures.prepares (sym f.status_is ∙ e)
 
 pub returns-clause-statuses : goal.returns-clause-statuses
 returns-clause-statuses g c = let f = c.finish.ensures.finishes in subst IsStatus (sym f.status_is) (statuses_row _ f.written)

@@ -1,4 +1,4 @@
-use Rattle.std.proofs.Common.{◌≤◌, arith}
+use Rattle.std.proofs.Common.{arith}
 use Rattle.wam_machine.proofs.Laws.{Runs-one, Runs-within}
 use Rattle.wam_machine.proofs.law.transcript.Goals as goal
 

@@ -1,0 +1,13 @@
+use Rattle.journal_base.specs.Journal.{Journal}
+use Rattle.journal_base.specs.View.{Looks}
+use Rattle.wam_machine.specs.Cursors.{Begins}
+use Rattle.wam_machine.specs.View.{IsReady, IsLed, setting}
+use Rattle.wam_machine.proofs.running.moves.Given as goal
+
+abbrev pub invariant-loop : goal.invariant-loop
+invariant-loop g l = record {
+  seen : Looks (g.B.Base.view l.fn.base) (g.B.Base.view l.base);
+  becomes : g.B.Base.becomes l.fn.base l.base;
+  ready : IsReady (g.B.Base.view l.base) (g.B.Base.serves l.base) g.B.Base.group (g.B.Base.out l.base) g.B.Base.rest g.B.Base.may_visit g.B.Base.looked_at l.host.budget l.machine;
+  led : (j : Journal) → Begins (g.B.Base.view l.base) j → IsLed g.B.Base.rest g.B.Base.may_visit g.B.Base.looked_at g.B.Base.ahead (g.B.Base.view l.base).causes (setting l.host j) l.goal.term l.machine;
+}

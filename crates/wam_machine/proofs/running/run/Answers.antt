@@ -1,0 +1,56 @@
+use Rattle.std.proofs.Common.{◌≡◌, ◌≤◌, ◌∙◌, ℕ, sym, ap, subst, refl}
+use Rattle.std.specs.Prelude.{IsTrue}
+use Rattle.prolog_terms.specs.Tree.{Tree}
+use Rattle.journal_base.specs.Journal.{Journal}
+use Rattle.journal_base.specs.View.{View, Looks, IsSound}
+use Rattle.wam_machine.specs.Machine.{Setting, made_all, no_entries}
+use Rattle.wam_machine.specs.Runs.{IsRunOf, IsTranscribed, setting_of}
+use Rattle.wam_machine.specs.Cursors.{Begins}
+use Rattle.wam_machine.specs.View.{run_of}
+use Rattle.wam_machine.specs.declared.run.Run.{Run}
+use Rattle.wam_machine.proofs.Begins.{begins_self, begins_before, looks_trans, none_made}
+use Rattle.wam_machine.proofs.running.run.Goals as goal
+
+-- the engine has made no entry since the run's beginning
+made : (u w : View) (J : Journal) (budget : ℕ) → IsSound u → Looks u w → w.stands_for J → IsTrue (made_all (setting_of w u.seen budget J))
+made u w J budget sound seen stands = ap no_entries (none_made u w J sound seen stands)
+
+same_settings : (a b s t budget : ℕ) (J : Journal) → a ≡ b → s ≡ t
+    → ◌≡◌ {A = Setting} (record { engine = a; journal = J; start = s; budget = budget }) (record { engine = b; journal = J; start = t; budget = budget })
+same_settings a b s t budget J e f = rw (e, f) refl
+
+ended_so : (u v w : View) (engine start budget : ℕ) (goal : Tree) (run : Run) → IsSound u → Looks u v → Looks v w → engine ≡ u.number → start ≡ u.seen → run.engine ≡ engine → run.line ≡ 0 → run.steps ≤ budget
+    → ((j : Journal) → Begins v j → IsTrue (made_all (record { engine = engine; journal = j; start = start; budget = budget }))
+    → IsTranscribed (record { engine = engine; journal = j; start = start; budget = budget }) v.causes goal run)
+    → IsRunOf w u.seen budget goal run
+ended_so u v w engine start budget goal run sound before after number at is line within ended = record {
+  engine = is ∙ engine_is;
+  line = line;
+  within = within;
+  transcribed = λ _ J stands.
+      let b = begins_before v w J after.grows (begins_self w J stands) in
+      let settings = same_settings engine w.number start u.seen budget J engine_is at in
+      let all = made u w J budget sound (looks_trans u v w before after) stands in
+      subst (λ x. IsTranscribed x w.causes goal run) settings
+      (subst (λ cs. IsTranscribed (record { engine = engine; journal = J; start = start; budget = budget }) cs goal run) (sym after.grows.causes)
+      (ended J b (subst (λ x. IsTrue (made_all x)) (sym settings) all)));
+}
+  where
+    engine_is : engine ≡ w.number
+    engine_is = number ∙ sym (after.grows.number ∙ before.grows.number)
+
+pub returns-in-Ok-clause-run : goal.returns-in-Ok-clause-run
+returns-in-Ok-clause-run g c =
+    let u = g.B.Base.view c.args.base.now in
+    let v = g.B.Base.view c.moves-ended.new.base in
+    let w = g.B.Base.view c.clear.new.base in
+    let run : Run = run_of c.number.result c.moves-ended.new.machine c.in-Ok.end in
+    subst (IsRunOf w u.seen c.args.budget c.args.goal.now.term) (sym c.into_run.ensures)
+    (ended_so u v w c.number.result c.front.result c.args.budget c.args.goal.now.term run c.front.ensures.sound c.in-Ok.ensures.seen c.clear.ensures.seen
+    c.number.ensures c.front.ensures.front refl refl c.in-Ok.ensures.within c.in-Ok.ensures.ended)
+
+pub returns-in-Ok-clause-seen : goal.returns-in-Ok-clause-seen
+returns-in-Ok-clause-seen g c = looks_trans _ _ _ c.in-Ok.ensures.seen c.clear.ensures.seen
+
+pub returns-in-Err-clause-seen : goal.returns-in-Err-clause-seen
+returns-in-Err-clause-seen g c = looks_trans _ _ _ c.in-Err.ensures.seen c.clear.ensures.seen

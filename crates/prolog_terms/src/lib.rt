@@ -11,6 +11,7 @@ mod name;
 mod names;
 mod node;
 mod ops;
+mod shown;
 mod term;
 #[cfg(test)]
 mod tests;
@@ -26,7 +27,8 @@ pub use fault::{Fault, fault_term};
 pub use name::Name;
 pub use names::Names;
 pub use node::Node;
-pub use ops::{OpKind, Operator, Ops};
+pub use ops::{Definitions, Infix, OpFault, OpKind, Ops, Postfix, Prefix};
+pub use shown::{Shown, ShownVariables};
 pub use term::Term;
 pub use want::Want;
 pub use whole::{WHOLE_MAX, WHOLE_MIN, Whole};

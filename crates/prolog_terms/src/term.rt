@@ -77,7 +77,7 @@ impl Term {
     }
 
     /// The term of which these are the nodes in prefix order.
-    pub(crate) fn from_prefix(nodes: Vec<Node>) -> Term
+    pub fn from_prefix(nodes: Vec<Node>) -> Term
         requires { IsPrefixOrder nodes.items }
         ensures { nodes_of result ≡ nodes.items }
     {

@@ -1,8 +1,11 @@
 // What no clause says: that each call answers with ample memory.
 
+ghost use Rattle.std.specs.Prelude.{◌≤◌};
+
 use crate::{
-    Bytes, Clause, End, Entries, Entry, Fault, Indicator, Kind, Name, Names, Node, Ops, Term, Want,
-    What, copy_clause, copy_entry, copy_indicator, fault_term, term_indicator,
+    Bytes, Clause, End, Entries, Entry, Fault, Indicator, Kind, Name, Names, Node, OpFault, OpKind,
+    Ops, Shown, ShownVariables, Term, Want, What, copy_clause, copy_entry, copy_indicator,
+    fault_term, term_indicator,
 };
 use std::alloc::Global;
 
@@ -139,9 +142,85 @@ fn entries_are_copied(rt: HostRuntime) -> Result<(), Want> {
     Ok(())
 }
 
+fn declared(
+    alloc: Global,
+    ops: &mut Ops,
+    priority: u16,
+    kind: OpKind,
+    name: &str,
+) -> Result<(), OpFault>
+    requires { priority ≤ 1200 }
+{
+    let name = Name::of(alloc, name.as_bytes())?;
+    ops.declare(priority, kind, &name)
+}
+
 #[test]
-fn operators_are_copied(rt: HostRuntime) -> Result<(), Want> {
-    let ops = Ops::initial(rt.alloc())?;
-    let _copy = ops.copy()?;
+fn declarations_are_taken_or_refused(rt: HostRuntime) {
+    let alloc = rt.alloc();
+    let mut ops = Ops::initial(alloc).expect(&rt, "memory");
+    for (priority, kind, name, want) in [
+        (700u16, OpKind::Xfx, ",", Err(OpFault::Comma)),
+        (0, OpKind::Fy, ",", Err(OpFault::Comma)),
+        (700, OpKind::Xfx, "|", Err(OpFault::Reserved)),
+        (0, OpKind::Fy, "[]", Err(OpFault::Reserved)),
+        (200, OpKind::Xf, "{}", Err(OpFault::Reserved)),
+        (200, OpKind::Xf, "-", Err(OpFault::Clash)),
+        (0, OpKind::Yf, "-", Ok(())),
+        (200, OpKind::Yf, "dynamic", Ok(())),
+        (200, OpKind::Xfx, "dynamic", Err(OpFault::Clash)),
+        (0, OpKind::Yfx, "dynamic", Ok(())),
+        (0, OpKind::Xf, "dynamic", Ok(())),
+        (300, OpKind::Xfy, "dynamic", Ok(())),
+        (0, OpKind::Xfx, "-", Ok(())),
+        (1200, OpKind::Fx, "is", Ok(())),
+    ] {
+        let got = declared(alloc, &mut ops, priority.min(1200), kind, name);
+        assert!(rt; got == want, "{priority} {name}");
+    }
+    for (name, prefix, infix, postfix) in [
+        ("-", 200u16, 0u16, 0u16),
+        ("dynamic", 1150, 300, 0),
+        ("is", 1200, 700, 0),
+        (",", 0, 1000, 0),
+        ("{}", 0, 0, 0),
+        ("a", 0, 0, 0),
+    ] {
+        let (before, between, after) = priorities(&ops, name.as_bytes());
+        assert!(rt;
+            before == prefix && between == infix && after == postfix,
+            "{name}"
+        );
+    }
+}
+
+fn priorities(ops: &Ops, name: &[u8]) -> (u16, u16, u16) {
+    let found = ops.definitions(name);
+    (
+        found.as_prefix.map_or(0, |op| op.priority),
+        found.as_infix.map_or(0, |op| op.priority),
+        found.as_postfix.map_or(0, |op| op.priority),
+    )
+}
+
+#[test]
+fn operators_are_looked_up(rt: HostRuntime) -> Result<(), Want> {
+    let ops = Ops::initial(rt.alloc())?.copy()?;
+    let minus = Name::of(rt.alloc(), b"-")?;
+    assert!(rt; ops.prefix(&minus).is_some());
+    assert!(rt; ops.infix(&minus).is_some());
+    assert!(rt; ops.postfix(&minus).is_none());
+    Ok(())
+}
+
+#[test]
+fn shown_variables_are_kept(rt: HostRuntime) -> Result<(), Want> {
+    let alloc = rt.alloc();
+    let mut items = ShownVariables::new(alloc).into_vec();
+    let name = Name::of(alloc, b"X")?;
+    items.push(Shown { name, var: 3 })?;
+    let shown = ShownVariables::from_vec(items);
+    assert!(rt; shown == shown.clone()?);
+    assert!(rt; shown.items().first().is_some_and(|x| x.var == 3));
     Ok(())
 }

@@ -1,10 +1,11 @@
-pub mod Skips
-pub mod Fits
-pub mod Snoc
-pub mod Parts
-pub mod Sound
-pub mod Complete
+mod Continues
+mod Snoc
+mod Runs
+mod Meets
+mod Turns
+mod Rules
+mod Sound
+mod Complete
+mod Facts
+mod Found
 pub mod Sentences
-pub mod Runs
-pub mod TokenLaw
-mod Examples

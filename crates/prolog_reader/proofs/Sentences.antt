@@ -1,9 +1,9 @@
 -- The read-terms of a text, one after the other.
-use Rattle.std.proofs.Common.{◌≡◌, ℕ, ◌+◌, ◌<◌, List, [], ◌∷◌, Bool, true, false, cond, refl, ap, arith}
-use Rattle.prolog_terms.specs.declared.ops.Operator.{Operator}
-use Rattle.prolog_reader.specs.Streams.{Stream, ended, refused, token}
-use Rattle.prolog_reader.specs.Texts.{Sentence, is_stop, upto, tail, size, sentences, before, read_of, answer_of}
-use Rattle.prolog_reader.specs.declared.token.Token.{Token}
+use Rattle.std.proofs.Common.{◌≡◌, ℕ, ◌+◌, ◌<◌, List, [], ◌∷◌, Bool, true, false, cond, map, refl, ap, ◌∙◌, arith}
+use Rattle.prolog_terms.specs.Operators.{Table}
+use Rattle.prolog_lexer.specs.Streams.{Stream, ended, refused, token}
+use Rattle.prolog_reader.specs.Texts.{Sentence, is_stop, upto, tail, size, sentences, before, read_of, answer, answer_of, Answer, Reading, a_term, nothing, refusal, program, to_refusal, after_answer}
+use Rattle.prolog_lexer.specs.declared.token.Token.{Token}
 use Rattle.prolog_reader.specs.declared.reader.Ended.{Ended}
 use Rattle.prolog_reader.specs.declared.reader.Ended.TheVariants.{Stopped, Out, Faulty}
 
@@ -30,7 +30,7 @@ sentences-unfold (refused f) = refl
 sentences-unfold (token t rest) = unfold_token (is_stop t.kind) t rest (sentences-unfold rest)
 
 -- what the first is answered
-pub read_of-first : (ops : List Operator) (s : Stream) → read_of ops s ≡ answer_of ops (first_of s)
+pub read_of-first : (ops : Table) (s : Stream) → read_of ops s ≡ answer_of ops (first_of s)
 unfolding read_of
 read_of-first ops s = refl
 
@@ -45,3 +45,34 @@ pub size-rest : (s : Stream) (line : ℕ) → (tail s).how ≡ Stopped line → 
 size-rest ended line e = cc
 size-rest (refused f) line e = cc
 size-rest (token t rest) line e = shorter_token (is_stop t.kind) t rest line (size-rest rest) e
+
+-- ---- the terms of a text
+
+front_refused : (x : Answer) (xs : List Answer) → to_refusal (x ∷ xs) ≡ after_answer x (to_refusal xs)
+front_refused (a_term line r) xs = refl
+front_refused nothing xs = refl
+front_refused (refusal line fault) xs = refl
+
+parts : (ops : Table) (ts : List Token) (how : Ended) (rest : Stream)
+    → to_refusal (answer ops ts how ∷ map (answer_of ops) (later how rest)) ≡ after_answer (answer ops ts how) (program ops rest)
+parts ops ts (Stopped line) rest = front_refused (answer ops ts (Stopped line)) (map (answer_of ops) (sentences rest))
+parts ops [] Out rest = refl
+parts ops (t ∷ ts) Out rest = refl
+parts ops ts (Faulty f) rest = refl
+
+-- the read-terms of a text are that at its front and those of the rest
+pub program_parts : (ops : Table) (s : Stream) → program ops s ≡ after_answer (read_of ops s) (program ops (tail s).rest)
+unfolding read_of
+program_parts ops s = ap (λ ss. to_refusal (map (answer_of ops) ss)) (sentences-unfold s) ∙ parts ops (upto s) (tail s).how (tail s).rest
+
+-- behind a term that was read the rest is shorter
+shorter_by : (ops : Table) (s : Stream) (ts : List Token) (how : Ended) (line : ℕ) (r : Reading) → (tail s).how ≡ how → answer ops ts how ≡ a_term line r
+    → size (tail s).rest < size s
+shorter_by ops s ts (Stopped n) line r h e = size-rest s n h
+shorter_by ops s [] Out line r h e = absurd cc
+shorter_by ops s (t ∷ ts) Out line r h e = absurd cc
+shorter_by ops s ts (Faulty f) line r h e = absurd cc
+
+pub shorter_after : (ops : Table) (s : Stream) (line : ℕ) (r : Reading) → read_of ops s ≡ a_term line r → size (tail s).rest < size s
+unfolding read_of
+shorter_after ops s line r e = shorter_by ops s (upto s) (tail s).how line r refl e

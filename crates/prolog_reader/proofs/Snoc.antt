@@ -1,27 +1,35 @@
--- One more item at the end of a stack.
-use Rattle.std.proofs.Common.{◌≡◌, ◌+◌, List, [], ◌∷◌, ◌++◌, length, refl, sym, ap, ◌∙◌, arith}
-use Rattle.std.specs.Prelude.{MatchOption, Option, Some, None}
+-- One more item at the end.
+use Rattle.std.proofs.Common.{◌≡◌, ℕ, suc, ◌+◌, ◌-◌, ◌<◌, List, [], ◌∷◌, ◌++◌, refl, sym, ap, ◌∙◌, arith}
+use Rattle.std.specs.Prelude.{codes, MatchOption, Option, Some, None, length}
 use Rattle.std.specs.Option.{option_to_list}
-use Rattle.prolog_reader.specs.Stacks.{newest, the_newest}
-use Rattle.prolog_reader.specs.declared.frames.Frame.{Frame}
+use Rattle.std.specs.Prelude.{reverse}
+use Rattle.std.proofs.lemmas.List.{reverse-append}
+use Rattle.prolog_terms.specs.Tree.{Trees, none}
+use Rattle.prolog_terms.specs.declared.node.Node.{Node}
+use Rattle.prolog_reader.specs.Grammar.{stack, pushed, cells, made}
+use Rattle.prolog_reader.specs.Stacks.{the_stack}
 
-newest-more : (fs : List Frame) (f : Frame) (onto : List Frame) → newest (fs ++ f ∷ []) onto ≡ f ∷ newest fs onto
-newest-more [] f onto = refl
-newest-more (g ∷ fs) f onto = newest-more fs f (g ∷ onto)
+stack-more : (ns : List Node) (n : Node) (ts : Trees) → stack ts (ns ++ n ∷ []) ≡ pushed n (stack ts ns)
+stack-more [] n ts = refl
+stack-more (m ∷ ns) n ts = stack-more ns n (pushed m ts)
 
-pub newest-push : (old new : List Frame) (f : Frame) → new ≡ old ++ f ∷ [] → the_newest new ≡ f ∷ the_newest old
-newest-push old new f e = rw e (newest-more old f [])
+pub stack-push : (old new : List Node) (n : Node) → new ≡ old ++ n ∷ [] → the_stack new ≡ pushed n (the_stack old)
+stack-push old new n e = rw e (stack-more old n none)
 
-pub newest-pop : (value : List Frame) (old new : List Frame) (x : Option Frame) → the_newest old ≡ value → old ≡ new ++ option_to_list x → (x ≡ None → length new ≡ 0)
-    → MatchOption x (value ≡ []) (λ f. value ≡ f ∷ the_newest new)
-newest-pop value old [] None v e h = sym v ∙ ap the_newest e
-newest-pop value old (f ∷ fs) None v e h = let g : length (f ∷ fs) ≡ 0 = h refl in absurd (omega arith)
-newest-pop value old new (Some f) v e h = sym v ∙ newest-push new old f e
+pub cells-more : (n k : ℕ) (ts : Trees) → k < n → cells (n - k) ts ≡ cells (n - (k + 1)) (made (codes ".") 2 ts)
+cells-more n k ts h = let e : n - k ≡ suc (n - (k + 1)) = omega arith in rw e refl
 
-length-newest : (fs onto : List Frame) → length (newest fs onto) ≡ length fs + length onto
-length-newest [] onto = omega arith
-length-newest (f ∷ fs) onto = omega (arith, length-newest fs (f ∷ onto))
+pub push-newest : {X : Type 0} (old new : List X) (x : X) → new ≡ old ++ x ∷ [] → reverse new ≡ x ∷ reverse old
+push-newest old new x e = rw e (reverse-append old (x ∷ []))
 
-pub none_newest : (fs value : List Frame) → the_newest fs ≡ value → (length fs ≡ 0 → value ≡ []) × (value ≡ [] → length fs ≡ 0)
-none_newest [] value e = (λ _. sym e, λ _. refl)
-none_newest (f ∷ fs) value e = (λ h. absurd (omega arith), λ h. absurd (omega (arith, length-newest fs (f ∷ []), ap length (e ∙ h))))
+empty : {X : Type 0} (xs : List X) → length xs ≡ 0 → xs ≡ []
+empty [] h = refl
+empty (x ∷ xs) h = absurd (omega arith)
+
+pub pop-newest : {X : Type 0} (value old new : List X) (x : Option X) → reverse old ≡ value → old ≡ new ++ option_to_list x → (x ≡ None → length new ≡ 0)
+    → MatchOption x ((value ≡ []) × (reverse new ≡ [])) (λ f. value ≡ f ∷ reverse new)
+pop-newest value old new None v e h =
+    let n : new ≡ [] = empty new (h refl) in
+    let o : old ≡ [] = e ∙ ap (λ xs. xs ++ []) n in
+    (sym v ∙ ap reverse o, ap reverse n)
+pop-newest value old new (Some f) v e h = sym v ∙ push-newest new old f e

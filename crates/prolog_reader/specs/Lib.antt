@@ -1,9 +1,7 @@
-pub mod Classes
-pub mod Pieces
-pub mod Streams
-pub mod Tokens
+pub mod Numberings
 pub mod Grammar
-pub mod Reads
-pub mod Texts
 pub mod Stacks
-pub mod Frames
+pub mod Steps
+pub mod Reads
+pub mod Orders
+pub mod Texts

@@ -1,11 +1,21 @@
--- A stack that is kept with the newest item last.
-use Rattle.std.specs.Prelude.{List, [], ◌∷◌}
-use Rattle.prolog_reader.specs.declared.frames.Frame.{Frame}
+-- Terms that are kept as their nodes, with the newest last.
+use Rattle.std.specs.Prelude.{◌≡◌, List, []}
+use Rattle.std.proofs.Common.{refl, ap, ◌∙◌, subst, append-nil}
+use Rattle.std.specs.Coded.{Coded, code_by, coded_list}
+use Rattle.prolog_terms.specs.Tree.{Trees, none, more}
+use Rattle.prolog_terms.specs.Flat.{forest, nodes_all, chained, forest-nodes_all, node_code}
+use Rattle.prolog_terms.specs.declared.node.Node.{Node}
+use Rattle.prolog_reader.specs.Grammar.{stack}
 
--- the items from the newest on, before these
-abbrev pub newest : List Frame → List Frame → List Frame
-newest [] onto = onto
-newest (f ∷ fs) onto = newest fs (f ∷ onto)
+chained-none : (ts : Trees) → chained ts none ≡ ts
+chained-none none = refl
+chained-none (more t ts) = ap (more t) (chained-none ts)
 
-abbrev pub the_newest : List Frame → List Frame
-the_newest fs = newest fs []
+pub forest-all : (ts : Trees) → forest (nodes_all ts) ≡ ts
+forest-all ts = subst (λ l. forest l ≡ ts) (append-nil (nodes_all ts)) (forest-nodes_all ts [] ∙ chained-none ts)
+
+abbrev pub trees_code : Coded Trees
+trees_code = code_by (List Node) (coded_list node_code) nodes_all forest forest-all
+
+abbrev pub the_stack : List Node → Trees
+the_stack ns = stack none ns

@@ -1,16 +1,25 @@
--- The read-terms of a text, and what is answered of each (docs/LANGUAGE.md, Terms).
-use Rattle.std.specs.Prelude.{◌≡◌, ℕ, ◌+◌, List, [], ◌∷◌, Bool, true, false, cond, Option, Some, None}
+-- The read-terms of a text, and what is answered of each (docs/LANGUAGE.md, "Terms").
+use Rattle.std.specs.Prelude.{◌≡◌, ℕ, ◌+◌, List, [], ◌∷◌, Bool, true, false, cond, map, Option, Some, None, Result, Ok, Err, IsTrue, All}
 use Rattle.prolog_terms.specs.Tree.{Tree}
-use Rattle.prolog_terms.specs.declared.ops.Operator.{Operator}
-use Rattle.prolog_reader.specs.Streams.{Stream, ended, refused, token}
-use Rattle.prolog_reader.specs.Grammar.{parse}
-use Rattle.prolog_reader.specs.declared.token.Token.{Token}
-use Rattle.prolog_reader.specs.declared.token.TokenKind.{TokenKind}
-use Rattle.prolog_reader.specs.declared.token.TokenKind.TheVariants.{Stop}
+use Rattle.prolog_terms.specs.Flat.{front}
+use Rattle.prolog_terms.specs.Variables.{met_after}
+use Rattle.prolog_terms.specs.Substitutions.{occurs}
+use Rattle.prolog_terms.specs.Operators.{Table}
+use Rattle.prolog_terms.specs.declared.shown.Shown.{Shown}
+use Rattle.prolog_lexer.specs.Streams.{Stream, ended, refused, token}
+use Rattle.prolog_lexer.specs.declared.token.Token.{Token}
+use Rattle.prolog_lexer.specs.declared.token.TokenKind.{TokenKind}
+use Rattle.prolog_lexer.specs.declared.token.TokenKind.TheVariants.{Stop}
+use Rattle.prolog_reader.specs.declared.rule.Fault.{Fault}
+use Rattle.prolog_reader.specs.declared.rule.Fault.TheVariants.{TooLarge, Unexpected, Priority, Arity}
 use Rattle.prolog_reader.specs.declared.reader.Ended.{Ended}
 use Rattle.prolog_reader.specs.declared.reader.Ended.TheVariants.{Stopped, Out, Faulty}
 use Rattle.prolog_reader.specs.declared.reader.Read.{Read}
 use Rattle.prolog_reader.specs.declared.reader.Read.TheVariants.{Term, End, Refused}
+use Rattle.prolog_reader.specs.declared.reader.ReadTerm.{ReadTerm}
+use Rattle.prolog_reader.specs.Numberings.{Numbering, no_variables, shown_of}
+use Rattle.prolog_reader.specs.Grammar.{Found, read}
+use Rattle.prolog_reader.specs.Reads.{Reads}
 
 abbrev pub is_stop : TokenKind → Bool
 is_stop Stop = true
@@ -45,41 +54,83 @@ line_of [] (Stopped line) = line
 line_of [] (Faulty f) = f.line
 line_of [] Out = 0
 
--- a term and its line, nothing more, or the line of a fault and its number
+abbrev pub number : Fault → ℕ
+number TooLarge = 5
+number Unexpected = 7
+number Priority = 8
+number Arity = 9
+
+-- a term, its named variables that are shown, and how many variables it has
+pub record Reading : Type 0 where
+  pub term : Tree
+  pub shown : List Shown
+  pub vars : ℕ
+
+-- the line of a term and the term, nothing more, or the line of a fault and its number
 pub data Answer : Type 0 where
-  a_term : ℕ → Tree → Answer
+  a_term : ℕ → Reading → Answer
   nothing : Answer
   refusal : ℕ → ℕ → Answer
 
-abbrev pub by_grammar : ℕ → Option Tree → Answer
-by_grammar line (Some t) = a_term line t
-by_grammar line None = refusal line 7
+abbrev pub reading_of : Tree → Numbering → Reading
+reading_of t vs = record { term = t; shown = shown_of vs.known; vars = vs.count }
 
--- the lexer's fault comes first, then 6 at the end of the text, then the grammar's 7
-abbrev pub answer : List Operator → List Token → Ended → Answer
+abbrev pub by_grammar : ℕ → Result Found Fault → Answer
+by_grammar line (Ok found) = a_term line (reading_of (front found.terms) found.variables)
+by_grammar line (Err f) = refusal line (number f)
+
+-- The lexer's fault comes first, then 6 where the text ends, and then a fault of the grammar.
+abbrev pub answer : Table → List Token → Ended → Answer
 answer ops ts (Faulty f) = refusal (line_of ts (Faulty f)) f.number
 answer ops [] Out = nothing
 answer ops (t ∷ ts) Out = refusal t.line 6
-answer ops ts (Stopped line) = by_grammar (line_of ts (Stopped line)) (parse ts)
+answer ops ts (Stopped line) = by_grammar (line_of ts (Stopped line)) (read ops ts)
 
 -- what a text gives at its front
-unfoldable pub read_of : List Operator → Stream → Answer
+unfoldable pub read_of : Table → Stream → Answer
 read_of ops s = answer ops (upto s) (tail s).how
 
--- what a call of read_term says
+-- ---- what a call of read_term says
+
+abbrev pub read_reading : ReadTerm → Reading
+read_reading r = record { term = r.term; shown = r.shown; vars = r.vars }
+
 abbrev pub Says : Answer → Read → Type 0
-Says x (Term r) = x ≡ a_term r.line r.term
+Says x (Term r) = x ≡ a_term r.line (read_reading r)
 Says x End = x ≡ nothing
 Says x (Refused line fault) = x ≡ refusal line fault
 
--- ---- all of a text
+-- the tokens read as the term by the cases of the grammar, with these variables
+pub record ReadsAs (ops : Table) (ts : List Token) (r : Reading) : Type 0 where
+  pub priority : ℕ
+  pub variables : Numbering
+  pub reads : Reads ops 1200 ts no_variables priority r.term [] variables
+  pub shown : r.shown ≡ shown_of variables.known
+  pub vars : r.vars ≡ variables.count
+
+abbrev pub ByCases : Table → List Token → Read → Type 0
+ByCases ops ts (Term r) = ReadsAs ops ts (read_reading r)
+ByCases ops ts End = Unit {0}
+ByCases ops ts (Refused line fault) = Unit {0}
+
+-- The variables are numbered from 0 by first occurrence, and each that is shown stands in the term.
+pub record HasItsVariables (r : Reading) : Type 0 where
+  pub numbered : met_after r.term 0 ≡ Some r.vars
+  pub stand : All (λ s. IsTrue (occurs s.var r.term)) r.shown
+
+abbrev pub Numbers : Read → Type 0
+Numbers (Term r) = HasItsVariables (read_reading r)
+Numbers End = Unit {0}
+Numbers (Refused line fault) = Unit {0}
+
+-- ---- all of a text, under one table
 
 -- the tokens of a read-term, and how they end
 pub record Sentence : Type 0 where
   pub tokens : List Token
   pub how : Ended
 
-abbrev pub answer_of : List Operator → Sentence → Answer
+abbrev pub answer_of : Table → Sentence → Answer
 answer_of ops s = answer ops s.tokens s.how
 
 abbrev pub without_tokens : Ended → Sentence
@@ -96,3 +147,26 @@ abbrev pub sentences : Stream → List Sentence
 sentences ended = without_tokens Out ∷ []
 sentences (refused f) = without_tokens (Faulty f) ∷ []
 sentences (token t rest) = before (is_stop t.kind) t (sentences rest)
+
+-- the terms of a text with their lines, or those before the first read-term that is refused; its line and fault then
+pub record Program : Type 0 where
+  pub terms : List (ℕ × Reading)
+  pub refused : Option (ℕ × ℕ)
+
+abbrev pub with_term : ℕ → Reading → Program → Program
+with_term line r p = record p { terms = (line, r) ∷ p.terms }
+
+abbrev pub to_refusal : List Answer → Program
+to_refusal [] = record { terms = []; refused = None }
+to_refusal (a_term line r ∷ xs) = with_term line r (to_refusal xs)
+to_refusal (nothing ∷ xs) = record { terms = []; refused = None }
+to_refusal (refusal line fault ∷ xs) = record { terms = []; refused = Some (line, fault) }
+
+abbrev pub program : Table → Stream → Program
+program ops s = to_refusal (map (answer_of ops) (sentences s))
+
+-- the same, one read-term after the other
+abbrev pub after_answer : Answer → Program → Program
+after_answer (a_term line r) rest = with_term line r rest
+after_answer nothing rest = record { terms = []; refused = None }
+after_answer (refusal line fault) rest = record { terms = []; refused = Some (line, fault) }

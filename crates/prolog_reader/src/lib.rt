@@ -1,19 +1,20 @@
-//! Tokens and terms of a text: a lexer, and a reader of read-terms that uses no recursion.
+//! Terms of a text.
 //!
-//! The language here is that of ground facts. `specs/Tokens.antt` and `specs/Reads.antt` say by cases what the tokens of
-//! a text are and which tokens are a term; `tokens_by_cases` and `terms_by_cases` tie the lexer and the reader to them.
+//! `specs/Reads.antt` says by cases which tokens read as which term, and `specs/Grammar.antt` gives the rules that read
+//! them one by one, with their faults; `reads_by_cases` ties the two.
 #![tactic(auto)]
 
-mod class;
-mod frames;
+mod ahead;
+mod built;
 mod law;
-mod lexer;
+mod order;
 mod parser;
-mod piece;
 mod reader;
-mod token;
+mod rule;
+mod stack;
+#[cfg(test)]
+mod tests;
+mod variables;
 
-pub use law::{terms_by_cases, tokens_by_cases};
-pub use lexer::Lexer;
+pub use law::{program_by_parts, reads_by_cases};
 pub use reader::{Read, ReadTerm, read_term};
-pub use token::{LexFault, Lexed, Token, TokenKind};

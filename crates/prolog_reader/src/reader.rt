@@ -1,12 +1,17 @@
-// Read-terms of a text (docs/LANGUAGE.md, Terms).
+// Read-terms of a text (docs/LANGUAGE.md, "Terms").
 ghost use Rattle.std.specs.Prelude.{◌≡◌, ◌++◌, IfOk};
-ghost use Rattle.prolog_reader.specs.Streams.{ahead};
+ghost use Rattle.prolog_lexer.specs.Streams.{ahead};
+ghost use Rattle.prolog_reader.specs.Grammar as grammar;
+ghost use Rattle.prolog_terms.specs.Flat.{front};
+ghost use Rattle.prolog_reader.specs.Orders.{IsOneTerm};
 ghost use Rattle.prolog_reader.specs.Texts as texts;
-ghost use Rattle.prolog_reader.specs.Texts.{Says};
+ghost use Rattle.prolog_reader.specs.Texts.{Says, ByCases, Numbers, upto, HasItsVariables, reading_of, read_reading};
 
-use crate::parser::parse;
-use crate::{LexFault, Lexed, Lexer, Token, TokenKind};
-use prolog_terms::{Ops, Term, Want};
+use crate::order::term_of;
+use crate::parser::{Parser, read};
+use crate::rule::Fault;
+use prolog_lexer::{LexFault, Lexed, Lexer, Token, TokenKind};
+use prolog_terms::{Ops, ShownVariables, Term, Want};
 use std::alloc::Global;
 
 /// How the tokens of a read-term end: at an End in a line, at the end of the text, or at a fault.
@@ -17,11 +22,17 @@ pub(crate) enum Ended {
     Faulty(LexFault),
 }
 
-/// A term that was read, and the line of its first token.
+/// A term that was read.
 #[derive(Debug, Drop)]
 pub struct ReadTerm {
+    /// The term, with its variables numbered from 0 by first occurrence.
     pub term: Term,
+    /// The line of its first token.
     pub line: u64,
+    /// Its named variables, in order of first occurrence, but for those whose name begins with `_`.
+    pub shown: ShownVariables,
+    /// How many variables it has.
+    pub vars: u64,
 }
 
 /// What a call of `read_term` finds.
@@ -30,22 +41,23 @@ pub enum Read {
     Term(ReadTerm),
     /// The end of the text: no token is left.
     End,
-    /// The line of a fault, and its number: 6 where the text ends within a read-term, 7 where it is no term.
+    /// The line of the read-term's first token (of the fault, where it has none) and the number of the fault: 1 to 5 of
+    /// the lexer, 5 also where an integer of 2^63 is not negated, 6 where the text ends within a read-term, 7 where a token
+    /// can't stand where it does, 8 where that is for an operator's priority, 9 where more than 255 arguments follow.
     Refused { line: u64, fault: u8 },
 }
 
 /// The number of the fault where the text ends within a read-term.
 const NO_END: u8 = 6;
 
-/// The number of the fault where tokens are no term.
-const NO_TERM: u8 = 7;
-
-/// Reads the next read-term: its tokens up to the next End, and the term that they are. Behind it the lexer stands after
-/// the End or, where none came, at the fault or at the end of the text; after want of memory, somewhere up to there.
-/// Ground facts have no operators, so `ops` does not change the answer.
+/// Reads the next read-term: its tokens up to the next End, and the term that they are under these operators. Behind it
+/// the lexer stands after the End or, where none came, at the fault or at the end of the text; after want of memory,
+/// somewhere up to there.
 #[tactic(auto, unfolding(crate::specs::Texts::read_of))]
 pub fn read_term(alloc: Global, lexer: &mut Lexer, ops: &Ops) -> Result<Read, Want>
     ensures read { IfOk result (λ r. Says (texts.read_of ops.now (ahead lexer.old)) r) }
+    ensures cases { IfOk result (λ r. ByCases ops.now (upto (ahead lexer.old)) r) }
+    ensures variables { IfOk result (λ r. Numbers r) }
     ensures rest { IfOk result (λ _. ahead lexer.new ≡ (texts.tail (ahead lexer.old)).rest) }
 {
     let mut tokens = Vec::new(alloc);
@@ -63,7 +75,7 @@ fn is_stop(kind: &TokenKind) -> bool
 }
 
 fn collect(alloc: Global, lexer: &mut Lexer, tokens: &mut Vec<Token>) -> Result<Ended, Want>
-    ensures tokens { IfOk result (λ _. tokens.new.items ≡ tokens.old.items ++ texts.upto (ahead lexer.old)) }
+    ensures tokens { IfOk result (λ _. tokens.new.items ≡ tokens.old.items ++ upto (ahead lexer.old)) }
     ensures ended { IfOk result (λ e. texts.tail (ahead lexer.old) ≡ record { how = e; rest = ahead lexer.new }) }
 {
     'tokens: loop {
@@ -93,8 +105,21 @@ fn line_of(tokens: &[Token], ended: Ended) -> u64
     }
 }
 
+fn number(fault: Fault) -> u8
+    ensures { result ≡ texts.number fault }
+{
+    match fault {
+        Fault::TooLarge => 5,
+        Fault::Unexpected => 7,
+        Fault::Priority => 8,
+        Fault::Arity => 9,
+    }
+}
+
 fn answer(alloc: Global, ops: &Ops, tokens: &[Token], ended: Ended) -> Result<Read, Want>
-    ensures { IfOk result (λ r. Says (texts.answer ops.now tokens.now ended) r) }
+    ensures says { IfOk result (λ r. Says (texts.answer ops.now tokens.now ended) r) }
+    ensures cases { IfOk result (λ r. ByCases ops.now tokens.now r) }
+    ensures variables { IfOk result (λ r. Numbers r) }
 {
     let line = line_of(tokens, ended);
     match ended {
@@ -112,138 +137,28 @@ fn answer(alloc: Global, ops: &Ops, tokens: &[Token], ended: Ended) -> Result<Re
                 })
             }
         }
-        Ended::Stopped(_) => match parse(alloc, tokens)? {
-            Some(term) => Ok(Read::Term(ReadTerm { term, line })),
-            None => Ok(Read::Refused {
+        Ended::Stopped(_) => match read(alloc, ops, tokens)? {
+            Ok(parser) => Ok(Read::Term(found_term(alloc, line, parser)?)),
+            Err(fault) => Ok(Read::Refused {
                 line,
-                fault: NO_TERM,
+                fault: number(fault),
             }),
         },
     }
 }
 
-#[cfg(test)]
-mod tests {
-    use super::*;
-    use prolog_terms::{Name, Node};
-
-    fn push_name(out: &mut String, name: &Name) -> Result<(), Want> {
-        for b in name.bytes() {
-            out.push(char::from(*b))?;
-        }
-        Ok(())
-    }
-
-    // A term as its nodes, each after a space.
-    fn push_term(alloc: Global, out: &mut String, term: &Term) -> Result<(), Want> {
-        for node in term.nodes() {
-            out.push(' ')?;
-            match node {
-                Node::Var(n) => out.push_str(&format!(in alloc; "_{n}")?)?,
-                Node::Int(n) => out.push_str(&format!(in alloc; "{n}")?)?,
-                Node::Atom(name) => push_name(out, name)?,
-                Node::Functor(name, arity) => {
-                    push_name(out, name)?;
-                    out.push_str(&format!(in alloc; "/{arity}")?)?;
-                }
-            }
-        }
-        Ok(())
-    }
-
-    // The first three answers, the last of which may be the end.
-    fn answers(alloc: Global, text: &[u8]) -> Result<String, Want> {
-        let ops = Ops::initial(alloc)?;
-        let mut lexer = Lexer::new(text);
-        let mut out = String::new(alloc);
-        for _ in 0..3 {
-            match read_term(alloc, &mut lexer, &ops)? {
-                Read::Term(read) => {
-                    let line = read.line;
-                    out.push_str(&format!(in alloc; "[{line}:")?)?;
-                    push_term(alloc, &mut out, &read.term)?;
-                    out.push(']')?;
-                }
-                Read::End => {
-                    out.push_str("end")?;
-                    return Ok(out);
-                }
-                Read::Refused { line, fault } => {
-                    out.push_str(&format!(in alloc; "[{line}!{fault}]")?)?;
-                }
-            }
-        }
-        Ok(out)
-    }
-
-    // How many nodes the first term has, or 0.
-    fn nodes(alloc: Global, text: &[u8]) -> Result<usize, Want> {
-        let ops = Ops::initial(alloc)?;
-        let mut lexer = Lexer::new(text);
-        match read_term(alloc, &mut lexer, &ops)? {
-            Read::Term(read) => Ok(read.term.nodes().len()),
-            _ => Ok(0),
-        }
-    }
-
-    fn repeated(
-        alloc: Global,
-        open: &[u8],
-        piece: &[u8],
-        times: usize,
-        close: &[u8],
-    ) -> Result<Vec<u8>, Want> {
-        let mut text = Vec::from_slice(alloc, open)?;
-        for _ in 0..times {
-            text.extend_from_slice(piece)?;
-        }
-        text.extend_from_slice(close)?;
-        Ok(text)
-    }
-
-    #[test]
-    fn answers_texts(rt: HostRuntime) {
-        let alloc = rt.alloc();
-        let table: [(&str, &str); 21] = [
-            ("a.\nb.\np(a\n", "[1: a][2: b][3!6]"),
-            ("p([]).", "[1!7][1!7][1!7]"),
-            ("p (a).", "[1!7]end"),
-            ("p(a, q(b,1),\n c) .", "[1: p/3 a q/2 b 1 c]end"),
-            ("\n\nf(g(h(x)))\n.", "[3: f/1 g/1 h/1 x]end"),
-            ("12ab.", "[1!7]end"),
-            ("007.", "[1: 7]end"),
-            ("9223372036854775807.", "[1: 9223372036854775807]end"),
-            ("9223372036854775808.", "[1!7][1!7][1!7]"),
-            ("p(a).%", "[1: p/1 a][1!7][1!7]"),
-            ("..", "[1!7][1!7][1!7]"),
-            ("", "end"),
-            (" \n ", "end"),
-            (".", "[1!7]end"),
-            ("aB_9z. x", "[1: aB_9z][1!6]end"),
-            ("p().\np(a,).\np(,a).", "[1!7][2!7][3!7]"),
-            ("p(a)(b).\n(a).\n1(a).", "[1!7][2!7][3!7]"),
-            ("p(a.\nb)).\nc.", "[1!7][2!7][3: c]"),
-            ("p(X).\na.", "[1!7][1!7][1!7]"),
-            ("a\n.b", "[1!7][2!7][2!7]"),
-            ("a:-b.", "[1!7][1!7][1!7]"),
-        ];
-        for (text, want) in table {
-            let got = answers(alloc, text.as_bytes()).expect(&rt, "memory");
-            assert_eq!(rt; got.as_str(), want, "at {text}");
-        }
-        let high = answers(alloc, &[128, 255, b'(', 200, b')', b'.']).expect(&rt, "memory");
-        assert_eq!(rt; high.as_str(), "[1: \u{80}\u{ff}/1 \u{c8}]end");
-    }
-
-    #[test]
-    fn reads_long_texts(rt: HostRuntime) {
-        let alloc = rt.alloc();
-        let most = repeated(alloc, b"f(", b"a,", 254, b"a).").expect(&rt, "memory");
-        assert_eq!(rt; nodes(alloc, &most).expect(&rt, "memory"), 256);
-        let too_many = repeated(alloc, b"f(", b"a,", 255, b"a).").expect(&rt, "memory");
-        assert_eq!(rt; nodes(alloc, &too_many).expect(&rt, "memory"), 0);
-        let closing = repeated(alloc, b"a", b")", 10000, b".").expect(&rt, "memory");
-        let deep = repeated(alloc, b"", b"f(", 10000, &closing).expect(&rt, "memory");
-        assert_eq!(rt; nodes(alloc, &deep).expect(&rt, "memory"), 10001);
-    }
+fn found_term(alloc: Global, line: u64, parser: Parser) -> Result<ReadTerm, Want>
+    requires { IsOneTerm parser.terms }
+    ensures reading { IfOk result (λ r. read_reading r ≡ reading_of (front parser.terms) parser.variables) }
+    ensures line { IfOk result (λ r. r.line ≡ line) }
+{
+    let shown = parser.variables.shown()?;
+    let vars = parser.variables.count();
+    let term = term_of(alloc, parser.terms)?;
+    Ok(ReadTerm {
+        term,
+        line,
+        shown,
+        vars,
+    })
 }

@@ -1,5 +1,5 @@
 use Rattle.std.proofs.Common.{◌≡◌, ◌++◌}
-use Rattle.prolog_reader.specs.Streams.{ahead}
+use Rattle.prolog_lexer.specs.Streams.{ahead}
 use Rattle.prolog_reader.specs.Texts as texts
 use Rattle.prolog_reader.proofs.reader.collect.Given as goal
 

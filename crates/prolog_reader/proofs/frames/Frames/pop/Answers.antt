@@ -1,8 +1,0 @@
-use Rattle.std.proofs.Common.{sym, ◌∙◌}
-use Rattle.prolog_reader.proofs.Snoc.{newest-pop}
-use Rattle.prolog_reader.proofs.frames.Frames.pop.Goals as goal
-
-pub returns : goal.returns
-returns c =
-    newest-pop c.args.self.now c.self.inside.items.items c.pop.new.self.items c.pop.result c.self.view_is c.pop.ensures.items
-    (λ e. let g = rw e at c.pop.ensures.cases in sym c.pop.new.self.ok.0 ∙ g.1)

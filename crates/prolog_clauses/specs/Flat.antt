@@ -1,0 +1,50 @@
+-- The same of a term's nodes in prefix order.
+use Rattle.std.specs.Prelude.{ℕ, ◌+◌, ◌-◌, ◌&&◌, ◌==◌, List, [], ◌∷◌, Bool, false, codes, Option, Some, None, if◌then◌else◌}
+use Rattle.prolog_terms.specs.Clauses.{is_named, is_connective}
+use Rattle.prolog_terms.specs.declared.node.Node.{Node}
+use Rattle.prolog_terms.specs.declared.node.Node.TheVariants.{Var, Int, Atom, Functor}
+use Rattle.prolog_clauses.specs.Renaming.{with_variable, place_of}
+
+-- how many nodes the first k trees have
+abbrev pub span : ℕ → List Node → ℕ
+span k [] = 0
+span k (Var n ∷ ns) = if k == 0 then 0 else 1 + span (k - 1) ns
+span k (Int z ∷ ns) = if k == 0 then 0 else 1 + span (k - 1) ns
+span k (Atom a ∷ ns) = if k == 0 then 0 else 1 + span (k - 1) ns
+span k (Functor f n ∷ ns) = if k == 0 then 0 else 1 + span (k - 1 + n) ns
+
+-- whether they are those of a rule
+abbrev pub begins_rule : List Node → Bool
+begins_rule (Functor f n ∷ ns) = is_named (codes ":-") f && n == 2
+begins_rule _ = false
+
+-- how many nodes of a goal stand before the next goal; none where it can be no goal
+abbrev pub goal_len : List Node → Option ℕ
+goal_len [] = None
+goal_len (Var n ∷ ns) = None
+goal_len (Int z ∷ ns) = None
+goal_len (Atom a ∷ ns) = Some 1
+goal_len (Functor f n ∷ ns) = Some (if is_connective f && n == 2 then 1 else span 1 (Functor f n ∷ ns))
+
+-- a list of variables after one of the node
+abbrev pub met_with : List ℕ → Node → List ℕ
+met_with met (Var n) = with_variable met n
+met_with met (Int z) = met
+met_with met (Atom a) = met
+met_with met (Functor f n) = met
+
+abbrev pub node_numbered : List ℕ → Node → Node
+node_numbered met (Var n) = Var (place_of n met)
+node_numbered met (Int z) = Int z
+node_numbered met (Atom a) = Atom a
+node_numbered met (Functor f n) = Functor f n
+
+-- a list of variables after those of nodes
+abbrev pub met_after_nodes : List ℕ → List Node → List ℕ
+met_after_nodes met [] = met
+met_after_nodes met (n ∷ ns) = met_after_nodes (met_with met n) ns
+
+-- nodes whose variables are numbered by place, each new one behind the list
+abbrev pub numbered_nodes : List ℕ → List Node → List Node
+numbered_nodes met [] = []
+numbered_nodes met (n ∷ ns) = node_numbered met n ∷ numbered_nodes (met_with met n) ns

@@ -1,0 +1,10 @@
+pub mod Trees
+pub mod Solved
+pub mod Complete
+pub mod Unique
+pub mod Known
+pub mod Triangular
+pub mod Standing
+pub mod Sizes
+mod Cases
+mod Examples

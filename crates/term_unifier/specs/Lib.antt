@@ -1,0 +1,4 @@
+pub mod Unifier
+pub mod Laws
+pub mod Resolved
+pub mod Rows

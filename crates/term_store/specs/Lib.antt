@@ -1,0 +1,9 @@
+pub mod Shape
+pub mod Terms
+pub mod Later
+pub mod Views
+pub mod Inside
+pub mod Work
+pub mod Puts
+pub mod Reads
+pub mod Laws

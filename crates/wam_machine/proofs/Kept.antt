@@ -7,7 +7,7 @@ use Rattle.journal_base.specs.Calls.{Goal}
 use Rattle.journal_base.specs.View.{Out, none_out, opened}
 use Rattle.wam_machine.specs.Cursors.{goal_of}
 use Rattle.wam_machine.specs.View.{all_out, AreKept}
-use Rattle.wam_machine.specs.declared.choice.Choice.{Choice}
+use Rattle.wam_machine.specs.Terms.{Left}
 
 -- ---- what holds of each of a list with one more
 
@@ -45,38 +45,38 @@ opened-low g h o = go (h == g)
     go false = omega arith
 
 module _ {C : Type 0} (group : C → ℕ) where
-  pub all_out-push : (o : Out) (cs : List (Choice C)) (c : Choice C) → all_out group o (cs ++ c ∷ []) ≡ opened (group c.cursor) (all_out group o cs)
+  pub all_out-push : (o : Out) (cs : List (Left C)) (c : Left C) → all_out group o (cs ++ c ∷ []) ≡ opened (group c.cursor) (all_out group o cs)
   all_out-push o [] c = refl
   all_out-push o (x ∷ xs) c = all_out-push (opened (group x.cursor) o) xs c
 
-  all_out-low : (o : Out) (cs : List (Choice C)) (h : ℕ) → o.of_group h ≤ (all_out group o cs).of_group h
+  all_out-low : (o : Out) (cs : List (Left C)) (h : ℕ) → o.of_group h ≤ (all_out group o cs).of_group h
   all_out-low o [] h = omega arith
   all_out-low o (x ∷ xs) h = omega (arith, opened-low (group x.cursor) h o, all_out-low (opened (group x.cursor) o) xs h)
 
   -- a cursor of each call's group is out
-  each_out : (o : Out) (cs : List (Choice C)) → All (λ c. 0 < (all_out group o cs).of_group (group c.cursor)) cs
+  each_out : (o : Out) (cs : List (Left C)) → All (λ c. 0 < (all_out group o cs).of_group (group c.cursor)) cs
   each_out o [] = All-nil _
   each_out o (x ∷ xs) =
       All-cons (λ c. 0 < (all_out group (opened (group x.cursor) o) xs).of_group (group c.cursor)) x xs
       (omega (arith, opened-here (group x.cursor) o, all_out-low (opened (group x.cursor) o) xs (group x.cursor)))
       (each_out (opened (group x.cursor) o) xs)
 
-  count_out : (o : Out) (cs : List (Choice C)) → (all_out group o cs).all ≡ o.all + length cs
+  count_out : (o : Out) (cs : List (Left C)) → (all_out group o cs).all ≡ o.all + length cs
   count_out o [] = omega arith
   count_out o (x ∷ xs) = omega (arith, count_out (opened (group x.cursor) o) xs)
 
   -- as many are out as there are calls
-  pub all_out-length : (cs : List (Choice C)) → (all_out group none_out cs).all ≡ length cs
+  pub all_out-length : (cs : List (Left C)) → (all_out group none_out cs).all ≡ length cs
   all_out-length cs = omega (arith, count_out none_out cs)
 
   -- ---- calls that are kept
 
-  module _ (serves : C → Goal → Type 0) (out : Out) (cs : List (Choice C)) where
+  module _ (serves : C → Goal → Type 0) (out : Out) (cs : List (Left C)) where
     -- so many cursors are out
     pub kept_count : AreKept serves group out cs → out.all ≡ length cs
     kept_count h = ap (λ (o : Out). o.all) h.out_is ∙ all_out-length cs
 
-    module _ (c : Choice C) where
+    module _ (c : Left C) where
       -- the last call's cursor may be used
       pub last_serves : AreKept serves group out (cs ++ c ∷ []) → serves c.cursor (goal_of c)
       last_serves h = all_last (λ x. serves x.cursor (goal_of x)) cs c h.serve
@@ -97,7 +97,7 @@ module _ {C : Type 0} (group : C → ℕ) where
       }
 
       -- one more call was looked up
-      pub kept_more : (c : Choice C) → AreKept serves group out cs → ((d : C) (g : Goal) → serves d g → serves_after d g) → after ≡ opened (group c.cursor) out
+      pub kept_more : (c : Left C) → AreKept serves group out cs → ((d : C) (g : Goal) → serves d g → serves_after d g) → after ≡ opened (group c.cursor) out
           → serves_after c.cursor (goal_of c) → AreKept serves_after group after (cs ++ c ∷ [])
       kept_more c h others opens new = record {
         serve = All-push (λ x. serves_after x.cursor (goal_of x)) cs c (λ k d lt. others _ _ (h.serve k d lt)) new;
@@ -105,7 +105,7 @@ module _ {C : Type 0} (group : C → ℕ) where
       }
 
       -- the last call was given up
-      pub kept_without : (c : Choice C) → AreKept serves group out (cs ++ c ∷ []) → ((d : C) (g : Goal) → serves d g → 0 < after.of_group (group d) → serves_after d g)
+      pub kept_without : (c : Left C) → AreKept serves group out (cs ++ c ∷ []) → ((d : C) (g : Goal) → serves d g → 0 < after.of_group (group d) → serves_after d g)
           → out ≡ opened (group c.cursor) after → AreKept serves_after group after cs
       kept_without c h others gives = record {
         serve = λ k d lt. others _ _ (all_front (λ x. serves x.cursor (goal_of x)) cs c h.serve k d lt)
@@ -117,7 +117,7 @@ module _ {C : Type 0} (group : C → ℕ) where
           same = opened-same (group c.cursor) after (all_out group none_out cs) (sym gives ∙ last_is c h)
 
       -- another cursor of its group stands in place of the last call's
-      pub kept_changed : (c d : Choice C) → AreKept serves group out (cs ++ c ∷ []) → ((e : C) (g : Goal) → serves e g → serves_after e g) → after ≡ out
+      pub kept_changed : (c d : Left C) → AreKept serves group out (cs ++ c ∷ []) → ((e : C) (g : Goal) → serves e g → serves_after e g) → after ≡ out
           → group d.cursor ≡ group c.cursor → serves_after d.cursor (goal_of d) → AreKept serves_after group after (cs ++ d ∷ [])
       kept_changed c d h others same alike new = record {
         serve = All-push (λ x. serves_after x.cursor (goal_of x)) cs d (λ k e lt. others _ _ (all_front (λ x. serves x.cursor (goal_of x)) cs c h.serve k e lt)) new;

@@ -1,16 +1,17 @@
 -- A goal has one transcript at most, and its steps are within the budget.
 use Rattle.std.proofs.Common.{◌≡◌, ℕ, suc, ◌+◌, ◌≤◌, List, [], ◌∷◌, Bool, true, false, refl, sym, ◌∙◌, subst, arith, inl, inr}
-use Rattle.std.specs.Prelude.{◌++◌, ◌==◌, ◌≢◌, ◌⊎◌, ◌&&◌, nat_le, if◌then◌else◌, Option, Some, None, take, length}
+use Rattle.std.specs.Prelude.{◌==◌, ◌≢◌, ◌⊎◌, ◌&&◌, nat_le, if◌then◌else◌, Option, Some, None, take, length, map}
 use Rattle.std.proofs.lemmas.Bool.Decides.{eqb_tells}
 use Rattle.prolog_terms.specs.Tree.{Tree}
 use Rattle.prolog_terms.specs.declared.entry.Clause.{Clause}
 use Rattle.prolog_terms.specs.declared.entry.Indicator.{Indicator}
 use Rattle.journal_base.specs.Journal.{Journal, number_of}
 use Rattle.journal_base.specs.Keys.{keys}
-use Rattle.wam_machine.specs.Trees.{same_tree}
+use Rattle.prolog_terms.specs.Substitutions.{renamed}
+use Rattle.wam_machine.specs.Control.{Control, True, Both, Equal, User, control_of, body_goals}
 use Rattle.wam_machine.specs.declared.run.RunEnd.{RunEnd}
 use Rattle.wam_machine.specs.declared.run.RunEnd.TheVariants.{Exhausted, Ball, Spent}
-use Rattle.wam_machine.specs.Machine.{Control, True, User, control_of, body_goals, Alternative, Clauses, Choice, Mode, Going, Failing, Raising, State, Setting, Report, Outcome, Goes, Ends, Unfit, no_more, made_all, over, stepping, fails, matching, leaving, trying, candidate_clauses, looked, called, calling, performing, goal_move, going, taken, failing, move, Runs, ends, goes}
+use Rattle.wam_machine.specs.Machine.{Alternative, Clauses, Choice, Mode, Going, Failing, Raising, State, Setting, Report, Outcome, Goes, Ends, Unfit, no_more, made_all, over, stepping, now, solution, solving, equating, numbering, entering, leaving, trying, candidate_clauses, looked, called, calling, performing, doing, goal_move, going, taken, failing, move, Runs, ends, goes}
 
 -- ---- one transcript
 
@@ -55,24 +56,27 @@ over-keeps x s end = go (no_more s.fronts && made_all x)
     go true = refl
     go false = tt
 
-matching-keeps : (goal : Tree) (c : Clause) (s : State) → Keeps s.steps (matching goal c s)
+solving-keeps : (goals : List Tree) (s : State) (o : Option (ℕ → Tree)) → Keeps s.steps (solving goals s o)
 unfolding Keeps
-matching-keeps goal c s = go (same_tree c.head goal)
-  where
-    go : (b : Bool) → Keeps s.steps (if b then Goes (record s { mode = Going; goals = body_goals c.body ++ s.goals }) else fails s)
-    go true = refl
-    go false = refl
+solving-keeps goals s None = refl
+solving-keeps goals s (Some m) = refl
+
+equating-keeps : (a b : Tree) (goals : List Tree) (s : State) → Keeps s.steps (equating a b goals s)
+equating-keeps a b goals s = solving-keeps goals s (solution s a b)
+
+entering-keeps : (goal : Tree) (c : Clause) (from : ℕ) (s : State) → Keeps s.steps (entering goal c from s)
+entering-keeps goal c from s = equating-keeps (renamed from c.head) goal (map (renamed from) (body_goals c.body)) s
 
 trying-keeps : (goal : Tree) (cs : List Clause) (s : State) → Keeps s.steps (trying goal cs s)
 unfolding Keeps
 trying-keeps goal [] s = refl
-trying-keeps goal (c ∷ []) s = matching-keeps goal c (record s { tried = s.tried + 1 })
-trying-keeps goal (c ∷ d ∷ ds) s = matching-keeps goal c (leaving goal (d ∷ ds) (record s { tried = s.tried + 1 }))
+trying-keeps goal (c ∷ []) s = entering-keeps goal c s.fresh (numbering c (record s { tried = s.tried + 1 }))
+trying-keeps goal (c ∷ d ∷ ds) s = entering-keeps goal c s.fresh (numbering c (leaving goal (d ∷ ds) (record s { tried = s.tried + 1 })))
 
 called-keeps : (goal : Tree) (i : Indicator) (before : ℕ) (seen : Journal) (s : State) (o : Option ℕ) → Keeps s.steps (called goal i before seen s o)
 unfolding Keeps
 called-keeps goal i before seen s None = refl
-called-keeps goal i before seen s (Some p) = trying-keeps goal (candidate_clauses seen p (keys goal)) (looked before s p goal)
+called-keeps goal i before seen s (Some p) = trying-keeps goal (candidate_clauses seen p (keys (now s goal))) (looked before s p (now s goal))
 
 calling-keeps : (x : Setting) (s : State) (goal : Tree) (i : Indicator) → Keeps s.steps (calling x s goal i)
 unfolding Keeps
@@ -98,12 +102,21 @@ stepping-within x s then_ le k = go (eqb_tells s.steps x.budget)
 performing-keeps : (x : Setting) (goal : Tree) (c : Control) (s : State) → Keeps s.steps (performing x goal c s)
 unfolding Keeps
 performing-keeps x goal True s = refl
+performing-keeps x goal (Both a b) s = refl
+performing-keeps x goal (Equal a b) s = equating-keeps a b [] s
 performing-keeps x goal (User i) s = calling-keeps x s goal i
+
+doing-within : (x : Setting) (goal : Tree) (s : State) (c : Control) → s.steps ≤ x.budget → Within x.budget (doing x goal s c)
+unfolding Within
+doing-within x goal s True le = stepping-within x s (performing x goal True) le (performing-keeps x goal True)
+doing-within x goal s (Both a b) le = le
+doing-within x goal s (Equal a b) le = stepping-within x s (performing x goal (Equal a b)) le (performing-keeps x goal (Equal a b))
+doing-within x goal s (User i) le = stepping-within x s (performing x goal (User i)) le (performing-keeps x goal (User i))
 
 goal_move-within : (x : Setting) (goal : Tree) (s : State) (o : Option Control) → s.steps ≤ x.budget → Within x.budget (goal_move x goal s o)
 unfolding Within
 goal_move-within x goal s None le = tt
-goal_move-within x goal s (Some c) le = stepping-within x s (performing x goal c) le (performing-keeps x goal c)
+goal_move-within x goal s (Some c) le = doing-within x goal s c le
 
 going-within : (x : Setting) (s : State) (gs : List Tree) → s.steps ≤ x.budget → Within x.budget (going x s gs)
 unfolding Within
@@ -115,7 +128,7 @@ taken-within x s (Clauses goal rest) le = stepping-within x s (trying goal rest)
 
 failing-within : (x : Setting) (s : State) (st : List Choice) → s.steps ≤ x.budget → Within x.budget (failing x s st)
 failing-within x s [] le = kept_within x.budget s.steps (over x s Exhausted) le (over-keeps x s Exhausted)
-failing-within x s (c ∷ below) le = taken-within x (record s { mode = Going; goals = c.goals; stack = below }) c.what le
+failing-within x s (c ∷ below) le = taken-within x (record s { mode = Going; goals = c.goals; bindings = c.bindings; stack = below }) c.what le
 
 move-within : (x : Setting) (s : State) → s.steps ≤ x.budget → Within x.budget (move x s)
 move-within x s le = go s.mode

@@ -4,6 +4,7 @@ use Rattle.std.specs.Prelude.{IsTrue}
 use Rattle.std.specs.List.{sum_by, AllZip}
 use Rattle.std.proofs.lemmas.List.Sums.{sum_by-append}
 use Rattle.prolog_terms.specs.Tree.{Tree}
+use Rattle.prolog_terms.specs.declared.shown.Shown.{Shown}
 use Rattle.journal_base.specs.Calls.{Goal}
 use Rattle.journal_base.specs.Journal.{Journal}
 use Rattle.journal_base.specs.Looks.{allowance, scans_of, kept_of, wants_of}
@@ -11,9 +12,10 @@ use Rattle.journal_base.specs.declared.cause.How.{How}
 use Rattle.journal_base.specs.declared.tally.Tally.{Tally}
 use Rattle.wam_machine.specs.Machine.{Look, Setting, Runs, ends, goes, move, beginning, made_all}
 use Rattle.wam_machine.specs.Runs.{IsFairLook, allowances, report_of, IsTranscribed}
-use Rattle.wam_machine.specs.View.{state_of, Works, GoesOn, ComesToEnd, IsLed, IsBeginning, no_tally, run_of}
+use Rattle.wam_machine.specs.View.{state_of, Works, GoesOn, ComesToEnd, IsLed, IsBeginning, no_tally, run_of, calls}
+use Rattle.wam_machine.specs.declared.run.Goal.{Goal as Started}
 use Rattle.wam_machine.specs.declared.run.RunEnd.{RunEnd}
-use Rattle.wam_machine.specs.declared.choice.Choice.{Choice}
+use Rattle.wam_machine.specs.Terms.{Left, Said}
 use Rattle.wam_machine.specs.declared.state.Machine.{Machine}
 
 -- ---- lists that go on
@@ -38,7 +40,7 @@ allowances-append R J (l ∷ ls) ls' (y ∷ hs) hs' h =
     regroup a b c = omega arith
 
 module _ {C : Type 0} (rest : C → Goal → Journal → List ℕ) (may : C → Goal → Journal → ℕ) (at : C → ℕ) (ahead : C → ℕ) (causes : List ℕ) where
-  works-on : (j : Journal) (a b c : Tally) (x y z : List (Choice C)) (ls ls' : List Look) (hs hs' : List How) (n m : ℕ)
+  works-on : (j : Journal) (a b c : Tally) (x y z : List (Left C)) (ls ls' : List Look) (hs hs' : List How) (n m : ℕ)
       → Works may at ahead causes j a b x y ls hs n → Works may at ahead causes j b c y z ls' hs' m → Works may at ahead causes j a c x z (ls ++ ls') (hs ++ hs') (n + m)
   works-on j a b c x y z ls ls' hs hs' n m f s = record {
     fair = zip-append (IsFairLook causes j) ls ls' hs hs' f.fair s.fair;
@@ -60,34 +62,34 @@ module _ {C : Type 0} (rest : C → Goal → Journal → List ℕ) (may : C → 
         subst (λ taken. Runs x (beginning x goal taken) r)
         (sym (append_assoc m.fronts.items c.added fs) ∙ ap (λ taken. taken ++ fs) (sym c.fronts_are))
         (l.leads (c.added ++ fs) r (goes (c.goes l.looks l.tried fs) h));
-    works = works-on x.journal no_tally m.tally new.tally [] m.stack.items new.stack.items l.looks c.looked l.hows c.hows l.tried c.given l.works c.works;
+    works = works-on x.journal no_tally m.tally new.tally [] (calls m) (calls new) l.looks c.looked l.hows c.hows l.tried c.given l.works c.works;
   }
 
-  pub led_at_first : (x : Setting) (goal : Tree) (m : Machine C) → IsBeginning goal x.start m → IsLed rest may at ahead causes x goal m
+  pub led_at_first : (x : Setting) (goal : Started) (m : Machine C) → IsBeginning goal x.start m → IsLed rest may at ahead causes x goal.term m
   led_at_first x goal m b = record {
     looks = [];
     hows = [];
     tried = 0;
     leads = λ fs r h. subst (λ s. Runs x s r) (same fs) h;
-    works = subst (λ t. Works may at ahead causes x.journal no_tally t [] m.stack.items [] [] 0) (sym b.tally)
-        (subst (λ cs. Works may at ahead causes x.journal no_tally no_tally [] cs [] [] 0) (sym b.stack) none);
+    works = subst (λ t. Works may at ahead causes x.journal no_tally t [] (calls m) [] [] 0) (sym b.tally)
+        (subst (λ cs. Works may at ahead causes x.journal no_tally no_tally [] cs [] [] 0) (sym (ap (λ (t : Said C). t.stack) b.said_is)) none);
   }
     where
-      same : (fs : List ℕ) → state_of rest at x.journal m [] 0 fs ≡ beginning x goal (m.fronts.items ++ fs)
-      same fs = rw (b.mode, b.goal_is, b.stack, b.steps, b.events, b.front, b.fronts) refl
+      same : (fs : List ℕ) → state_of rest at x.journal m [] 0 fs ≡ beginning x goal.term (m.fronts.items ++ fs)
+      same fs = rw (b.mode, b.said_is, b.steps, b.events, b.front, b.fronts) refl
 
       none : Works may at ahead causes x.journal no_tally no_tally [] [] [] [] 0
       none = record { fair = tt; looks = omega arith; scans = omega arith; kept = omega arith; wants = omega arith; most = omega arith; least = omega arith; unbuilt = λ _. (refl, refl) }
 
-  pub leads_to_end : (x : Setting) (goal : Tree) (m new : Machine C) (end : RunEnd) → IsTrue (made_all x) → IsLed rest may at ahead causes x goal m → ComesToEnd rest at (move x) x m new end
-      → IsTranscribed x causes goal (run_of x.engine new end)
-  leads_to_end x goal m new end made l c = record {
+  pub leads_to_end : (x : Setting) (goal : Tree) (shown : List Shown) (m new : Machine C) (end : RunEnd) → IsTrue (made_all x) → IsLed rest may at ahead causes x goal m → ComesToEnd rest at (move x) x m new end
+      → IsTranscribed x causes goal (run_of x.engine shown new end)
+  leads_to_end x goal shown m new end made l c = record {
     looks = l.looks;
     tried = l.tried;
     transcript =
-        subst (λ taken. Runs x (beginning x goal taken) (report_of (run_of x.engine new end) l.looks l.tried))
+        subst (λ taken. Runs x (beginning x goal taken) (report_of (run_of x.engine shown new end) l.looks l.tried))
         (append-nil m.fronts.items ∙ sym c.fronts_are)
-        (l.leads [] (report_of (run_of x.engine new end) l.looks l.tried) (ends (c.ends made l.looks l.tried)));
+        (l.leads [] (report_of (run_of x.engine shown new end) l.looks l.tried) (ends (c.ends made l.looks l.tried)));
     hows = l.hows;
     fair = l.works.fair;
     counted = ap (λ (t : Tally). t.looks) c.tally_is ∙ l.works.looks ∙ none (length l.looks);

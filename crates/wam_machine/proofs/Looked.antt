@@ -6,16 +6,19 @@ use Rattle.std.proofs.lemmas.List.Sums.{sum_by_push}
 use Rattle.prolog_terms.specs.declared.entry.Indicator.{Indicator}
 use Rattle.journal_base.specs.Calls.{Goal}
 use Rattle.journal_base.specs.Journal.{Journal, number_of}
+use Rattle.journal_base.specs.Keys.{keys}
 use Rattle.journal_base.specs.Looks.{TellsOnly, cause_number, CountsLook, most_raised, scans_of, kept_of, wants_of}
 use Rattle.journal_base.specs.declared.cause.How.{How}
 use Rattle.journal_base.specs.declared.cause.How.TheVariants.{Indexed, Scanned}
 use Rattle.journal_base.specs.declared.cause.Cause.{Cause}
 use Rattle.journal_base.specs.declared.cause.Cause.TheVariants.{Plain, Few, Crowded, Claimed, Barred, NoPlace, Passed, NoMemory, Built}
 use Rattle.journal_base.specs.declared.tally.Tally.{Tally}
-use Rattle.wam_machine.specs.Machine.{Setting, Look, calling, trying}
-use Rattle.wam_machine.specs.Cursors.{IsOpened, goal_of, clauses_left, visits_left}
-use Rattle.wam_machine.specs.View.{stack_of, mode_of, goals_of, state_from, state_of, all_visits, aheads, GoesOn, IsHeldIn, Tries, KeepsCounts}
-use Rattle.wam_machine.specs.declared.choice.Choice.{Choice}
+use Rattle.prolog_terms.specs.Tree.{Tree}
+use Rattle.prolog_terms.specs.Substitutions.{substituted}
+use Rattle.wam_machine.specs.Machine.{Setting, Look, calling, trying, candidate_clauses, call_of}
+use Rattle.wam_machine.specs.Cursors.{IsOpened, goal_of, part, clauses_left, visits_left}
+use Rattle.wam_machine.specs.View.{stack_of, mode_of, state_with, state_of, calls, all_visits, aheads, GoesOn, IsHeldIn, Tries, KeepsCounts}
+use Rattle.wam_machine.specs.Terms.{Left, Said, said}
 use Rattle.wam_machine.specs.declared.state.Machine.{Machine}
 use Rattle.wam_machine.proofs.Moves.{call_found}
 
@@ -47,21 +50,23 @@ only_plain (Indexed mark covered age late kept) h = absurd (h.0 refl)
 only_plain (Scanned c) h = plain_cause c (no_cause c h.1)
 
 module _ {C : Type 0} (rest : C → Goal → Journal → List ℕ) (may : C → Goal → Journal → ℕ) (at : C → ℕ) (ahead : C → ℕ) (causes : List ℕ) where
-  pub looked : (x : Setting) (m mid new : Machine C) (c : Choice C) (how : How) (i : Indicator) → mid.front ≡ at c.cursor → m.front ≤ at c.cursor → at c.cursor ≤ length x.journal
-      → number_of (take (at c.cursor) x.journal) i ≡ Some c.procedure
-      → mid.mode ≡ m.mode → mid.goal ≡ m.goal → mid.stack.items ≡ m.stack.items → mid.steps ≡ m.steps → mid.events.items ≡ m.events.items → mid.fronts.items ≡ m.fronts.items ++ mid.front ∷ []
+  pub looked : (x : Setting) (m mid new : Machine C) (c : Left C) (how : How) (i : Indicator) → mid.front ≡ at c.cursor → m.front ≤ at c.cursor → at c.cursor ≤ length x.journal
+      → number_of (take (at c.cursor) x.journal) i ≡ Some c.procedure → c.bindings ≡ (said m.terms).bindings
+      → mid.mode ≡ m.mode → said mid.terms ≡ said m.terms → mid.steps ≡ m.steps → mid.events.items ≡ m.events.items → mid.fronts.items ≡ m.fronts.items ++ mid.front ∷ []
       → IsOpened rest may at causes m.front x.journal c how m.tally mid.tally → CountsLook m.tally mid.tally how → m.tally.visits + ahead c.cursor ≤ mid.tally.visits
-      → Tries rest may at ahead x.journal c mid new → KeepsCounts mid new → IsHeldIn rest may at x.journal m.tally m.stack.items
+      → Tries rest may at ahead x.journal c mid new → KeepsCounts mid new → IsHeldIn rest may at x.journal m.tally (calls m)
       → GoesOn rest may at ahead causes (λ s. calling x s c.goal i) x.journal m new
-  looked x m mid new c how i is low high named mode goal stack steps events fronts opened counted first tries counts held =
+  looked x m mid new c how i is low high named moment mode terms steps events fronts opened counted first tries counts held =
       let j : Journal = x.journal in
+      let t : Said C = said m.terms in
       let f : ℕ = at c.cursor in
       let look : Look = record { before = m.front; front = f; call = goal_of c } in
-      let looks : new.tally.looks ≡ m.tally.looks + 1 = ap (λ (t : Tally). t.looks) counts.tally ∙ counted.looks in
-      let all : all_visits may at j (mid.stack.items ++ c ∷ []) ≡ all_visits may at j m.stack.items + visits_left may at j c =
-      ap (λ cs. all_visits may at j (cs ++ c ∷ [])) stack ∙ sum_by_push (visits_left may at j) m.stack.items c in
-      let aheads_are : aheads ahead (mid.stack.items ++ c ∷ []) ≡ aheads ahead m.stack.items + ahead c.cursor =
-      ap (λ cs. aheads ahead (cs ++ c ∷ [])) stack ∙ sum_by_push (λ (d : Choice C). ahead d.cursor) m.stack.items c in
+      let stack : calls mid ≡ calls m = ap (λ (u : Said C). u.stack) terms in
+      let looks : new.tally.looks ≡ m.tally.looks + 1 = ap (λ (u : Tally). u.looks) counts.tally ∙ counted.looks in
+      let all : all_visits may at j (calls mid ++ c ∷ []) ≡ all_visits may at j (calls m) + visits_left may at j c =
+      ap (λ cs. all_visits may at j (cs ++ c ∷ [])) stack ∙ sum_by_push (visits_left may at j) (calls m) c in
+      let aheads_are : aheads ahead (calls mid ++ c ∷ []) ≡ aheads ahead (calls m) + ahead c.cursor =
+      ap (λ cs. aheads ahead (cs ++ c ∷ [])) stack ∙ sum_by_push (λ (d : Left C). ahead d.cursor) (calls m) c in
       record {
         added = f ∷ [];
         looked = look ∷ [];
@@ -69,28 +74,31 @@ module _ {C : Type 0} (rest : C → Goal → Journal → List ℕ) (may : C → 
         given = tries.given;
         fronts_are = counts.fronts ∙ fronts ∙ ap (λ n. m.fronts.items ++ n ∷ []) is;
         goes = λ ls tried fs.
-            call_found x (goals_of m.goal) (stack_of rest at j m.stack.items) m.steps m.events.items m.front ls tried (mode_of m.mode) c.goal i c.procedure f fs low high named
-            ∙ ap (λ cs. trying c.goal cs (state_from (goals_of m.goal) (stack_of rest at j m.stack.items) (mode_of m.mode) m.steps m.events.items f (ls ++ look ∷ []) tried fs)) (sym opened.clauses)
+            call_found x t.goals (stack_of rest at j t.stack) t.bindings t.fresh m.steps m.events.items m.front ls tried (mode_of m.mode) c.goal i c.procedure f fs low high named
+            ∙ ap (λ (b : ℕ → Tree).
+            trying c.goal (candidate_clauses (part at j c) c.procedure (keys (substituted b c.goal)))
+            (state_with rest at j t (mode_of m.mode) m.steps m.events.items f (ls ++ record { before = m.front; front = f; call = call_of c.procedure (substituted b c.goal) } ∷ []) tried fs)) (sym moment)
+            ∙ ap (λ cs. trying c.goal cs (state_with rest at j t (mode_of m.mode) m.steps m.events.items f (ls ++ look ∷ []) tried fs)) (sym opened.clauses)
             ∙ ap (trying c.goal (clauses_left rest at j c)) (again (ls ++ look ∷ []) tried fs)
             ∙ tries.tried (ls ++ look ∷ []) tried fs;
         works = record {
           fair = (opened.fair, tt);
           looks = looks;
-          scans = ap (λ (t : Tally). t.scans) counts.tally ∙ counted.scans ∙ ap (λ n. m.tally.scans + n) (sym (one scans_of how));
-          kept = ap (λ (t : Tally). t.kept) counts.tally ∙ counted.kept ∙ ap (λ n. m.tally.kept + n) (sym (one kept_of how));
-          wants = ap (λ (t : Tally). t.wants) counts.tally ∙ counted.wants ∙ ap (λ n. m.tally.wants + n) (sym (one wants_of how));
+          scans = ap (λ (u : Tally). u.scans) counts.tally ∙ counted.scans ∙ ap (λ n. m.tally.scans + n) (sym (one scans_of how));
+          kept = ap (λ (u : Tally). u.kept) counts.tally ∙ counted.kept ∙ ap (λ n. m.tally.kept + n) (sym (one kept_of how));
+          wants = ap (λ (u : Tally). u.wants) counts.tally ∙ counted.wants ∙ ap (λ n. m.tally.wants + n) (sym (one wants_of how));
           most = omega (arith, tries.most, all, opened.most);
           least = omega (arith, tries.least, aheads_are, first);
           unbuilt = λ plain.
               let built = counted.unbuilt (only_plain how (subst (λ cs. TellsOnly cs how) plain opened.fair.told)) in
-              (ap (λ (t : Tally). t.built) counts.tally ∙ built.0, ap (λ (t : Tally). t.indexes) counts.tally ∙ built.1);
+              (ap (λ (u : Tally). u.built) counts.tally ∙ built.0, ap (λ (u : Tally). u.indexes) counts.tally ∙ built.1);
         };
         held = record {
           named = tries.named;
-          raised = subst (λ n. new.tally.visits + all_visits may at j new.stack.items ≤ n * most_raised) (sym looks) (omega (arith, tries.most, all, opened.raised, held.raised));
+          raised = subst (λ n. new.tally.visits + all_visits may at j (calls new) ≤ n * most_raised) (sym looks) (omega (arith, tries.most, all, opened.raised, held.raised));
         };
       }
     where
       again : (ls : List Look) (tried : ℕ) (fs : List ℕ)
-          → state_from (goals_of m.goal) (stack_of rest at x.journal m.stack.items) (mode_of m.mode) m.steps m.events.items (at c.cursor) ls tried fs ≡ state_of rest at x.journal mid ls tried fs
-      again ls tried fs = rw (mode, goal, stack, steps, events, is) refl
+          → state_with rest at x.journal (said m.terms) (mode_of m.mode) m.steps m.events.items (at c.cursor) ls tried fs ≡ state_of rest at x.journal mid ls tried fs
+      again ls tried fs = rw (mode, terms, steps, events, is) refl

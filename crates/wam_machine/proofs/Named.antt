@@ -1,13 +1,14 @@
 -- The clauses and procedures of a journal and of what it begins with.
-use Rattle.std.proofs.Common.{◌≡◌, ℕ, zero, suc, ◌+◌, ◌≤◌, ◌<◌, List, [], ◌∷◌, ◌++◌, length, take, drop, Bool, true, false, Option, Some, None, refl, sym, ap, ◌∙◌, subst, arith, append_assoc, append-nil}
-use Rattle.std.specs.Prelude.{IsSome, IsTrue, is_some, All, slice_get, if◌then◌else◌}
+use Rattle.std.proofs.Common.{◌≡◌, ℕ, zero, suc, ◌+◌, ◌≤◌, ◌<◌, List, [], ◌∷◌, ◌++◌, length, take, drop, Bool, true, false, Option, Some, None, refl, sym, ap, ◌∙◌, subst, arith, append_assoc, append-nil, inl, inr}
+use Rattle.std.specs.Prelude.{IsSome, IsTrue, is_some, All, slice_get, if◌then◌else◌, option_and_then, ◌==◌, ◌≢◌, ◌⊎◌}
 use Rattle.std.proofs.lemmas.List.{take-take, take-append-drop}
 use Rattle.std.proofs.lemmas.List.Elements.{All-weaker, filter_passes}
 use Rattle.std.proofs.lemmas.Option.{option_and_then_some}
 use Rattle.std.proofs.lemmas.Bool.{false≢true}
+use Rattle.std.proofs.lemmas.Bool.Decides.{eqb_tells}
 use Rattle.std.proofs.lemmas.Grind.{not_there}
-use Rattle.prolog_terms.specs.Tree.{Tree, variable, integer, atom, compound}
 use Rattle.prolog_terms.specs.Clauses.{IsClause, is_body}
+use Rattle.prolog_terms.specs.Variables.{met_after}
 use Rattle.prolog_terms.specs.Indicators.{indicator_of}
 use Rattle.prolog_terms.specs.declared.entry.Clause.{Clause}
 use Rattle.prolog_terms.specs.declared.entry.Indicator.{Indicator}
@@ -54,25 +55,31 @@ clause_legal words updates J k c l h = option_and_then_some (λ e. added e.what)
     go by (Add e p d) is may = let same : d ≡ c = cc in subst IsClause same may.clause
     go by (Erase j) is may = absurd cc
 
-pub body_callable : (t : Tree) → IsTrue (is_body t) → IsTrue (is_some (indicator_of t))
-body_callable (variable n) h = h
-body_callable (integer z) h = h
-body_callable (atom a) h = refl
-body_callable (compound f ts) h = refl
-
--- the body of a clause that is named in what is seen can be called
-pub clause_callable : (v : View) (k : ℕ) (c : Clause) → IsSound v → InSeen v (λ J. clause_named J k ≡ Some c) → IsTrue (is_some (indicator_of c.body))
-clause_callable v k c sound named = go (is_some (indicator_of c.body)) refl
+-- the clause that is named in what is seen is one
+pub clause_is : (v : View) (k : ℕ) (c : Clause) → IsSound v → InSeen v (λ J. clause_named J k ≡ Some c) → IsClause c
+clause_is v k c sound named = record {
+  head = told (is_some (indicator_of c.head)) (λ J s. (in_one J s).head);
+  body = told (is_body c.body) (λ J s. (in_one J s).body);
+  numbered = counted (option_and_then (met_after c.body) (met_after c.head 0)) (λ J s. (in_one J s).numbered);
+}
   where
-    in_one : (J : Journal) → v.stands_for J → IsTrue (is_some (indicator_of c.body))
+    in_one : (J : Journal) → v.stands_for J → IsClause c
     in_one J s =
         let e : clause_named (take v.seen J) k ≡ Some c = named J s in
         let f : clause_named J k ≡ Some c = clause_take J v.seen k (ap is_some e) ∙ e in
-        body_callable c.body (clause_legal _ _ J k c (sound.each J s).legal f).body
+        clause_legal _ _ J k c (sound.each J s).legal f
 
-    go : (b : Bool) → is_some (indicator_of c.body) ≡ b → IsTrue (is_some (indicator_of c.body))
-    go true e = e
-    go false e = absurd (not_there sound.some (λ w. false≢true (sym e ∙ in_one w.0 w.1)))
+    told : (b : Bool) → ((J : Journal) → v.stands_for J → IsTrue b) → IsTrue b
+    told true h = refl
+    told false h = absurd (not_there sound.some (λ w. false≢true (h w.0 w.1)))
+
+    counted : (o : Option ℕ) → ((J : Journal) → v.stands_for J → o ≡ Some c.vars) → o ≡ Some c.vars
+    counted None h = absurd (not_there sound.some (λ w. let t : ◌≡◌ {A = Option ℕ} None (Some c.vars) = h w.0 w.1 in absurd cc))
+    counted (Some n) h = go (eqb_tells n c.vars)
+      where
+        go : ((n == c.vars) ≡ true) × (n ≡ c.vars) ⊎ ((n == c.vars) ≡ false) × (n ≢ c.vars) → Some n ≡ Some c.vars
+        go (inl (d, e)) = ap Some e
+        go (inr (d, e)) = absurd (not_there sound.some (λ w. e (let t : Some n ≡ Some c.vars = h w.0 w.1 in cc)))
 
 -- ---- procedures
 

@@ -6,10 +6,11 @@ use Rattle.prolog_terms.specs.declared.entry.Kind.{Kind}
 use Rattle.journal_base.specs.Calls.{Goal}
 use Rattle.journal_base.specs.Journal.{Journal, number_of, procedure_named, procedures}
 use Rattle.std.proofs.lemmas.List.Elements.{All-nil}
-use Rattle.prolog_terms.specs.Tree.{Tree}
 use Rattle.journal_base.specs.View.{View, IsSound, Looks, Out, none_out}
 use Rattle.wam_machine.specs.Cursors.{goal_of, AreNamed}
-use Rattle.wam_machine.specs.View.{IsReady, IsBeginning, AreKept}
+use Rattle.wam_machine.specs.Terms.{Said}
+use Rattle.wam_machine.specs.View.{IsReady, IsBeginning, AreKept, calls}
+use Rattle.wam_machine.specs.declared.run.Goal.{Goal as Started}
 use Rattle.wam_machine.specs.declared.state.Machine.{Machine}
 use Rattle.wam_machine.proofs.Begins.{begins_before}
 use Rattle.wam_machine.proofs.Kept.{kept_on}
@@ -20,7 +21,8 @@ pub ready_on : {C : Type 0} (v w : View) (serves serves_after : C → Goal → T
     → IsReady w serves_after group after rest may at budget m
 ready_on v w serves serves_after group out after rest may at budget m r l others same = record {
   sound = l.grows.sound;
-  kept = kept_on group serves out m.stack.items serves_after after r.kept others same;
+  terms = r.terms;
+  kept = kept_on group serves out (calls m) serves_after after r.kept others same;
   held = record {
     within = r.held.within;
     few = r.held.few;
@@ -80,21 +82,28 @@ found_number J i p k found = go (number_of J i) refl
 
 -- ---- before the first move
 
+-- no call is left
+no_calls : {C : Type 0} (start : ℕ) (goal : Started) (m : Machine C) → IsBeginning goal start m → calls m ≡ []
+no_calls start goal m b = ap (λ (t : Said _). t.stack) b.said_is
+
 pub ready_at_first : {C : Type 0} (v : View) (serves : C → Goal → Type 0) (group : C → ℕ) (out : Out) (rest : C → Goal → Journal → List ℕ) (may : C → Goal → Journal → ℕ) (at : C → ℕ)
-    (budget start : ℕ) (goal : Tree) (m : Machine C) → IsSound v → IsBeginning goal start m → start ≡ v.seen → out ≡ none_out → IsReady v serves group out rest may at budget m
-ready_at_first v serves group out rest may at budget start goal m sound b is none = record {
-  sound = sound;
-  kept = subst (AreKept serves group out) (sym b.stack) (record { serve = All-nil (λ c. serves c.cursor (goal_of c)); out_is = none });
-  held = rw (b.steps, b.front, b.stack, b.tally) (record {
-    within = omega arith;
-    few = omega arith;
-    reached = omega (arith, is);
-    looks = omega arith;
-    scans = omega arith;
-    kept = omega arith;
-    wants = omega arith;
-    built = omega arith;
-    indexes = omega arith;
-  });
-  each = λ j s. rw (b.tally, b.stack) (record { named = All-nil (AreNamed rest at j); raised = omega arith });
-}
+    (budget start : ℕ) (goal : Started) (m : Machine C) → IsSound v → IsBeginning goal start m → start ≡ v.seen → out ≡ none_out → IsReady v serves group out rest may at budget m
+ready_at_first v serves group out rest may at budget start goal m sound b is none =
+    let empty : calls m ≡ [] = no_calls start goal m b in
+    record {
+      sound = sound;
+      terms = b.terms;
+      kept = subst (AreKept serves group out) (sym empty) (record { serve = All-nil (λ c. serves c.cursor (goal_of c)); out_is = none });
+      held = rw (b.steps, b.front, empty, b.tally) (record {
+        within = omega arith;
+        few = omega arith;
+        reached = omega (arith, is);
+        looks = omega arith;
+        scans = omega arith;
+        kept = omega arith;
+        wants = omega arith;
+        built = omega arith;
+        indexes = omega arith;
+      });
+      each = λ j s. rw (b.tally, empty) (record { named = All-nil (AreNamed rest at j); raised = omega arith });
+    }

@@ -14,7 +14,7 @@ use Rattle.journal_base.specs.declared.cause.Cause.TheVariants.{Plain, Few, Crow
 use Rattle.journal_base.specs.View.{View, IsSound, Looks, Out}
 use Rattle.journal_base.specs.declared.tally.Tally.{Tally}
 use Rattle.wam_machine.specs.Cursors.{Begins}
-use Rattle.wam_machine.specs.View.{IsReady, all_visits}
+use Rattle.wam_machine.specs.View.{IsReady, all_visits, calls}
 use Rattle.wam_machine.specs.declared.state.Machine.{Machine}
 use Rattle.wam_machine.proofs.Begins.{begins_self}
 
@@ -100,4 +100,4 @@ module _ {C : Type 0} (v : View) (serves : C → Goal → Type 0) (group : C →
       }
     where
       visits_held : (j : Journal) → Begins v j → m.tally.visits ≤ m.tally.looks * most_raised
-      visits_held j b = less m.tally.visits (all_visits may at j m.stack.items) (m.tally.looks * most_raised) (r.each j b).raised
+      visits_held j b = less m.tally.visits (all_visits may at j (calls m)) (m.tally.looks * most_raised) (r.each j b).raised

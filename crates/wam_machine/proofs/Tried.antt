@@ -1,27 +1,28 @@
 -- Clauses are tried: the engine's step is the machine's.
-use Rattle.std.proofs.Common.{◌≡◌, ℕ, ◌+◌, ◌≤◌, List, [], ◌∷◌, ◌++◌, take, Bool, true, false, refl, sym, ap, ◌∙◌, subst, arith, inl, inr, Option, Some, None, append-nil}
-use Rattle.std.specs.Prelude.{if◌then◌else◌, All, IsSome, filter_map}
+use Rattle.std.proofs.Common.{◌≡◌, ℕ, ◌+◌, ◌≤◌, List, [], ◌∷◌, ◌++◌, take, Bool, true, false, refl, sym, ap, ◌∙◌, subst, arith, inl, inr, Option, Some, None}
+use Rattle.std.specs.Prelude.{if◌then◌else◌, All, IsSome, filter_map, map}
 use Rattle.std.specs.List.{cons_option}
 use Rattle.std.proofs.lemmas.Bool.{false≢true}
 use Rattle.std.proofs.lemmas.List.Elements.{All-head, All-tail, All-push}
 use Rattle.std.proofs.lemmas.List.Sums.{sum_by_push}
 use Rattle.prolog_terms.specs.Tree.{Tree}
+use Rattle.prolog_terms.specs.Substitutions.{renamed}
 use Rattle.prolog_terms.specs.declared.entry.Clause.{Clause}
 use Rattle.journal_base.specs.Calls.{Goal}
 use Rattle.journal_base.specs.Journal.{Journal, clause_named}
 use Rattle.journal_base.specs.View.{has_more}
 use Rattle.journal_base.specs.declared.tally.Tally.{Tally}
-use Rattle.wam_machine.specs.Trees.{same_tree}
+use Rattle.wam_machine.specs.Control.{body_goals}
 use Rattle.wam_machine.specs.Machine as spec
-use Rattle.wam_machine.specs.Machine.{State, Outcome, Goes, Clauses, Look, body_goals, fails, matching, leaving, trying}
+use Rattle.wam_machine.specs.Machine.{State, Outcome, Goes, Clauses, Look, numbering, entering, leaving, trying}
+use Rattle.wam_machine.specs.Terms.{Left, Said, said, IsEntered}
 use Rattle.wam_machine.specs.Cursors.{part, names_left, clauses_left, visits_left, AreNamed}
-use Rattle.wam_machine.specs.View.{newest, goals_of, mode_of, choice_of, stack_of, state_from, state_of, settled_mode, all_visits, aheads, Tries, Attempts, IsPushed}
+use Rattle.wam_machine.specs.View.{newest, mode_of, choice_of, stack_of, state_with, state_of, settled_mode, all_visits, aheads, Tries, Attempts, IsPushed, calls}
 use Rattle.wam_machine.specs.declared.run.Event.{Event}
-use Rattle.wam_machine.specs.declared.choice.Choice.{Choice}
-use Rattle.wam_machine.specs.declared.state.Mode.{Mode}
 use Rattle.wam_machine.specs.declared.state.Mode.TheVariants.{Failing as IsFailing}
 use Rattle.wam_machine.specs.declared.state.Machine.{Machine}
 use Rattle.wam_machine.proofs.Kept.{all_front, all_last}
+use Rattle.wam_machine.proofs.Moves.{equated}
 
 pub newest-append : {A B : Type 0} (f : A → B) (xs ys : List A) (onto : List B) → newest f (xs ++ ys) onto ≡ newest f ys (newest f xs onto)
 newest-append f [] ys onto = refl
@@ -31,83 +32,76 @@ newest-append f (x ∷ xs) ys onto = newest-append f xs ys (f x ∷ onto)
 
 -- an alternative is left exactly where a name is left
 leaves : (goal : Tree) (f : ℕ → Option Clause) (ns : List ℕ) (s : State) → All (λ k. IsSome (f k)) ns
-    → leaving goal (filter_map f ns) s ≡ (if has_more ns then record s { stack = record { what = Clauses goal (filter_map f ns); goals = s.goals } ∷ s.stack } else s)
+    → leaving goal (filter_map f ns) s
+    ≡ (if has_more ns then record s { stack = record { what = Clauses goal (filter_map f ns); goals = s.goals; bindings = s.bindings } ∷ s.stack } else s)
 leaves goal f [] s h = refl
 leaves goal f (k ∷ ks) s h = go (f k) (filter_map f ks) (All-head (λ k. IsSome (f k)) k ks h)
   where
-    go : (o : Option Clause) (cs : List Clause) → IsSome o → leaving goal (cons_option o cs) s ≡ record s { stack = record { what = Clauses goal (cons_option o cs); goals = s.goals } ∷ s.stack }
+    go : (o : Option Clause) (cs : List Clause) → IsSome o
+        → leaving goal (cons_option o cs) s ≡ record s { stack = record { what = Clauses goal (cons_option o cs); goals = s.goals; bindings = s.bindings } ∷ s.stack }
     go None cs some = absurd (false≢true some)
     go (Some c) cs some = refl
 
--- the clause's head and the goal are the same or not
-matched : (goal : Tree) (clause : Clause) (t : Bool) (goals : List Tree) (stack : List spec.Choice) (before after : Mode) (steps : ℕ) (events : List Event) (front : ℕ) (looks : List Look) (tried : ℕ) (fronts : List ℕ)
-    → t ≡ same_tree clause.head goal → after ≡ settled_mode t → goals ≡ (if t then body_goals clause.body else [])
-    → matching goal clause (state_from [] stack (mode_of before) steps events front looks tried fronts) ≡ Goes (state_from goals stack (mode_of after) steps events front looks tried fronts)
-matched goal clause t goals stack before after steps events front looks tried fronts same mode left =
-    ap (λ (b : Bool). if b then Goes (record s { mode = spec.Going; goals = body_goals clause.body ++ [] }) else fails s) (sym same)
-    ∙ go t
-    ∙ ap (λ (gs : List Tree). Goes (state_from gs stack (mode_of (settled_mode t)) steps events front looks tried fronts)) (sym left)
-    ∙ ap (λ (m : Mode). Goes (state_from goals stack (mode_of m) steps events front looks tried fronts)) (sym mode)
-  where
-    s : State
-    s = state_from [] stack (mode_of before) steps events front looks tried fronts
-
-    go : (b : Bool) → ◌≡◌ {A = Outcome} (if b then Goes (record s { mode = spec.Going; goals = body_goals clause.body ++ [] }) else fails s)
-        (Goes (state_from (if b then body_goals clause.body else []) stack (mode_of (settled_mode b)) steps events front looks tried fronts))
-    go true = ap (λ (gs : List Tree). Goes (record s { mode = spec.Going; goals = gs })) (append-nil (body_goals clause.body))
-    go false = refl
-
 module _ {C : Type 0} (rest : C → Goal → Journal → List ℕ) (at : C → ℕ) (j : Journal) where
-  stack_pushed : (stack : List (Choice C)) (c : Choice C) → stack_of rest at j (stack ++ c ∷ []) ≡ choice_of rest at j c ∷ stack_of rest at j stack
+  stack_pushed : (stack : List (Left C)) (c : Left C) → stack_of rest at j (stack ++ c ∷ []) ≡ choice_of rest at j c ∷ stack_of rest at j stack
   stack_pushed stack c = newest-append (choice_of rest at j) stack (c ∷ []) []
 
-  left_over : (c : Choice C) (s : State) → AreNamed rest at j c → s.goals ≡ []
+  -- a call whose moment is now is left where a name is left
+  left_over : (c : Left C) (s : State) → AreNamed rest at j c → s.goals ≡ c.goals → s.bindings ≡ c.bindings
       → leaving c.goal (clauses_left rest at j c) s ≡ (if has_more (names_left rest at j c) then record s { stack = choice_of rest at j c ∷ s.stack } else s)
   unfolding clauses_left AreNamed
-  left_over c s named idle =
+  left_over c s named after moment =
       leaves c.goal (clause_named (part at j c)) (names_left rest at j c) s named
-      ∙ ap (λ (gs : List Tree). if has_more (names_left rest at j c) then record s { stack = record { what = Clauses c.goal (clauses_left rest at j c); goals = gs } ∷ s.stack } else s) idle
+      ∙ ap (λ (gs : List Tree). if has_more (names_left rest at j c) then record s { stack = record { what = Clauses c.goal (clauses_left rest at j c); goals = gs; bindings = s.bindings } ∷ s.stack } else s) after
+      ∙ ap (λ (b : ℕ → Tree). if has_more (names_left rest at j c) then record s { stack = record { what = Clauses c.goal (clauses_left rest at j c); goals = c.goals; bindings = b } ∷ s.stack } else s) moment
+
+  module _ (c : Left C) (clause : Clause) (old kept new : Said C) (mode : spec.Mode) (steps : ℕ) (events : List Event) (front : ℕ) (looks : List Look) (tried : ℕ) (fronts : List ℕ) where
+    at_terms : Said C → State
+    at_terms t = state_with rest at j t mode steps events front looks tried fronts
+
+    left_or_not : AreNamed rest at j c → old.goals ≡ c.goals → old.bindings ≡ c.bindings → kept ≡ record old { stack = kept.stack }
+        → kept.stack ≡ (if has_more (names_left rest at j c) then old.stack ++ c ∷ [] else old.stack)
+        → leaving c.goal (clauses_left rest at j c) (at_terms old) ≡ at_terms kept
+    unfolding at_terms
+    left_or_not named after moment same stack =
+        left_over c (at_terms old) named after moment
+        ∙ go (has_more (names_left rest at j c))
+        ∙ ap (λ (cs : List (Left C)). at_terms (record old { stack = cs })) (sym stack)
+        ∙ ap at_terms (sym same)
+      where
+        go : (b : Bool) → ◌≡◌ {A = State} (if b then record (at_terms old) { stack = choice_of rest at j c ∷ stack_of rest at j old.stack } else at_terms old)
+            (at_terms (record old { stack = if b then old.stack ++ c ∷ [] else old.stack }))
+        go true = ap (λ (st : List spec.Choice). record (at_terms old) { stack = st }) (sym (stack_pushed old.stack c))
+        go false = refl
+
+    -- the call is left where a name is left, and then the clause is entered
+    entered : AreNamed rest at j c → old.goals ≡ c.goals → old.bindings ≡ c.bindings → kept ≡ record old { stack = kept.stack }
+        → kept.stack ≡ (if has_more (names_left rest at j c) then old.stack ++ c ∷ [] else old.stack) → (done : Bool) → IsEntered c.goal clause kept new done
+        → entering c.goal clause old.fresh (numbering clause (leaving c.goal (clauses_left rest at j c) (at_terms old)))
+        ≡ Goes (state_with rest at j new (mode_of (settled_mode done)) steps events front looks tried fronts)
+    unfolding at_terms
+    entered named after moment same stack done enters =
+        ap (λ s. entering c.goal clause old.fresh (numbering clause s)) (left_or_not named after moment same stack)
+        ∙ ap (λ (n : ℕ). entering c.goal clause n (numbering clause (at_terms kept))) (sym (ap (λ (t : Said C). t.fresh) same))
+        ∙ equated rest at j (map (renamed kept.fresh) (body_goals clause.body)) (record kept { fresh = kept.fresh + clause.vars }) new mode steps events front looks tried fronts done
+        (renamed kept.fresh clause.head) c.goal enters
 
   -- a clause is tried before those that are left
-  pub attempted : (c : Choice C) (clause : Clause) (old new : Machine C) (t : Bool) → AreNamed rest at j c → old.goal ≡ None
-      → new ≡ record old { goal = new.goal; mode = new.mode; stack = new.stack }
-      → new.stack.items ≡ (if has_more (names_left rest at j c) then old.stack.items ++ c ∷ [] else old.stack.items)
-      → new.mode ≡ settled_mode t → goals_of new.goal ≡ (if t then body_goals clause.body else []) → t ≡ same_tree clause.head c.goal
+  pub attempted : (c : Left C) (clause : Clause) (old kept new : Machine C) (done : Bool) → AreNamed rest at j c → (said old.terms).goals ≡ c.goals → (said old.terms).bindings ≡ c.bindings
+      → said kept.terms ≡ record (said old.terms) { stack = calls kept }
+      → calls kept ≡ (if has_more (names_left rest at j c) then calls old ++ c ∷ [] else calls old)
+      → IsEntered c.goal clause (said kept.terms) (said new.terms) done
+      → new.mode ≡ settled_mode done → new.steps ≡ old.steps → new.events.items ≡ old.events.items → new.front ≡ old.front
       → (looks : List Look) (tried : ℕ) (fronts : List ℕ)
       → trying c.goal (clause ∷ clauses_left rest at j c) (state_of rest at j old looks tried fronts) ≡ Goes (state_of rest at j new looks (tried + 1) fronts)
-  attempted c clause old new t named idle same stack mode goals is looks tried fronts =
-      ap (λ (gs : List Tree). matching c.goal clause (leaving c.goal (clauses_left rest at j c) (start gs))) (ap goals_of idle)
-      ∙ ap (matching c.goal clause) (left_over c (start []) named refl ∙ go (has_more (names_left rest at j c)))
-      ∙ ap (λ (cs : List (Choice C)). matching c.goal clause (state_from [] (stack_of rest at j cs) (mode_of old.mode) old.steps old.events.items old.front looks (tried + 1) fronts)) (sym stack)
-      ∙ matched c.goal clause t (goals_of new.goal) (stack_of rest at j new.stack.items) old.mode new.mode old.steps old.events.items old.front looks (tried + 1) fronts is mode goals
-      ∙ ap (λ (m : Machine C). Goes (state_of rest at j m looks (tried + 1) fronts)) (sym same)
-    where
-      start : List Tree → State
-      start gs = state_from gs (stack_of rest at j old.stack.items) (mode_of old.mode) old.steps old.events.items old.front looks (tried + 1) fronts
-
-      go : (b : Bool) → ◌≡◌ {A = State} (if b then record (start []) { stack = choice_of rest at j c ∷ stack_of rest at j old.stack.items } else start [])
-          (state_from [] (stack_of rest at j (if b then old.stack.items ++ c ∷ [] else old.stack.items)) (mode_of old.mode) old.steps old.events.items old.front looks (tried + 1) fronts)
-      go true = ap (λ (st : List spec.Choice). record (start []) { stack = st }) (sym (stack_pushed old.stack.items c))
-      go false = refl
-
-  -- a call was kept or given up, and then the clause was settled
-  pub settled : (c : Choice C) (clause : Clause) (old between new : Machine C) (t : Bool) → AreNamed rest at j c → old.goal ≡ None
-      → between ≡ record old { stack = between.stack }
-      → between.stack.items ≡ (if has_more (names_left rest at j c) then old.stack.items ++ c ∷ [] else old.stack.items)
-      → new ≡ record between { goal = new.goal; mode = new.mode }
-      → new.mode ≡ settled_mode t → goals_of new.goal ≡ (if t then body_goals clause.body else goals_of between.goal) → t ≡ same_tree clause.head c.goal
-      → (looks : List Look) (tried : ℕ) (fronts : List ℕ)
-      → trying c.goal (clause ∷ clauses_left rest at j c) (state_of rest at j old looks tried fronts) ≡ Goes (state_of rest at j new looks (tried + 1) fronts)
-  settled c clause old between new t named idle first stack second mode goals is =
-      attempted c clause old new t named idle
-      (second ∙ ap (λ (m : Machine C). record m { goal = new.goal; mode = new.mode }) first ∙ ap (λ (m : Machine C). record old { goal = new.goal; mode = new.mode; stack = m.stack }) (sym second))
-      (ap (λ (m : Machine C). m.stack.items) second ∙ stack) mode
-      (goals ∙ ap (λ (gs : List Tree). if t then body_goals clause.body else gs) (ap (λ (m : Machine C). goals_of m.goal) first ∙ ap goals_of idle))
-      is
+  unfolding at_terms
+  attempted c clause old kept new done named after moment same stack enters mode steps events front looks tried fronts =
+      entered c clause (said old.terms) (said kept.terms) (said new.terms) (mode_of old.mode) old.steps old.events.items old.front looks (tried + 1) fronts named after moment same stack done enters
+      ∙ rw (mode, steps, events, front) refl
 
 -- ---- the first clause that is left
 
-module _ {C : Type 0} (rest : C → Goal → Journal → List ℕ) (may : C → Goal → Journal → ℕ) (at : C → ℕ) (ahead : C → ℕ) (j : Journal) (c d : Choice C) where
+module _ {C : Type 0} (rest : C → Goal → Journal → List ℕ) (may : C → Goal → Journal → ℕ) (at : C → ℕ) (ahead : C → ℕ) (j : Journal) (c d : Left C) where
   -- no name is left
   none_left : names_left rest at j c ≡ [] → clauses_left rest at j c ≡ []
   unfolding clauses_left
@@ -131,15 +125,15 @@ module _ {C : Type 0} (rest : C → Goal → Journal → List ℕ) (may : C → 
       ∙ ap (λ (o : Option Clause). cons_option o (filter_map (clause_named (part at j d)) (names_left rest at j d))) named
 
   -- the calls that are kept have names
-  pub all_named : (k : ℕ) (cs : List (Choice C)) → at d.cursor ≡ at c.cursor → names_left rest at j c ≡ k ∷ names_left rest at j d → All (AreNamed rest at j) (cs ++ c ∷ []) → All (AreNamed rest at j) (cs ++ d ∷ [])
+  pub all_named : (k : ℕ) (cs : List (Left C)) → at d.cursor ≡ at c.cursor → names_left rest at j c ≡ k ∷ names_left rest at j d → All (AreNamed rest at j) (cs ++ c ∷ []) → All (AreNamed rest at j) (cs ++ d ∷ [])
   all_named k cs same e h =
       All-push (AreNamed rest at j) cs d (all_front (AreNamed rest at j) cs c h) (next_named k same e (all_last (AreNamed rest at j) cs c h)).0
 
-  pub name_named : (k : ℕ) (cs : List (Choice C)) → at d.cursor ≡ at c.cursor → names_left rest at j c ≡ k ∷ names_left rest at j d → All (AreNamed rest at j) (cs ++ c ∷ []) → IsSome (clause_named (part at j d) k)
+  pub name_named : (k : ℕ) (cs : List (Left C)) → at d.cursor ≡ at c.cursor → names_left rest at j c ≡ k ∷ names_left rest at j d → All (AreNamed rest at j) (cs ++ c ∷ []) → IsSome (clause_named (part at j d) k)
   name_named k cs same e h = (next_named k same e (all_last (AreNamed rest at j) cs c h)).1
 
   -- no clause is left
-  pub tries_none : (old : Machine C) (t : Tally) → names_left rest at j c ≡ [] → All (AreNamed rest at j) (old.stack.items ++ c ∷ [])
+  pub tries_none : (old : Machine C) (t : Tally) → names_left rest at j c ≡ [] → All (AreNamed rest at j) ((calls old) ++ c ∷ [])
       → t.visits + visits_left may at j d ≤ old.tally.visits + visits_left may at j c
       → old.tally.visits + ahead d.cursor ≤ t.visits + ahead c.cursor
       → Tries rest may at ahead j c old (record old { mode = IsFailing; tally = t })
@@ -148,17 +142,17 @@ module _ {C : Type 0} (rest : C → Goal → Journal → List ℕ) (may : C → 
     tried = λ looks tried fronts.
         ap (λ cs. trying c.goal cs (state_of rest at j old looks tried fronts)) (none_left none)
         ∙ ap (λ (n : ℕ). Goes (record (state_of rest at j old looks tried fronts) { mode = spec.Failing; tried = n })) (let e : tried ≡ tried + 0 = omega arith in e);
-    most = omega (arith, sum_by_push (visits_left may at j) old.stack.items c);
-    least = omega (arith, sum_by_push (λ (x : Choice C). ahead x.cursor) old.stack.items c);
-    named = all_front (AreNamed rest at j) old.stack.items c named;
+    most = omega (arith, sum_by_push (visits_left may at j) (calls old) c);
+    least = omega (arith, sum_by_push (λ (x : Left C). ahead x.cursor) (calls old) c);
+    named = all_front (AreNamed rest at j) (calls old) c named;
   }
 
   -- a clause was attempted
   pub tries_some : (old new : Machine C) (t : Tally) (k : ℕ) → at d.cursor ≡ at c.cursor → d.goal ≡ c.goal → names_left rest at j c ≡ k ∷ names_left rest at j d
-      → All (AreNamed rest at j) (old.stack.items ++ c ∷ [])
+      → All (AreNamed rest at j) ((calls old) ++ c ∷ [])
       → t.visits + visits_left may at j d ≤ old.tally.visits + visits_left may at j c
       → old.tally.visits + 1 + ahead d.cursor ≤ t.visits + ahead c.cursor
-      → new ≡ record old { tally = t; goal = new.goal; mode = new.mode; stack = new.stack } → IsPushed d old.stack.items new.stack.items → Attempts rest may at j k d (record old { tally = t }) new
+      → new ≡ record old { tally = t; mode = new.mode; terms = new.terms } → IsPushed d (calls old) (calls new) → Attempts rest may at j k d (record old { tally = t }) new
       → Tries rest may at ahead j c old new
   tries_some old new t k same goal names named visits least changed pushed attempt = record {
     given = 1;
@@ -174,17 +168,17 @@ module _ {C : Type 0} (rest : C → Goal → Journal → List ℕ) (may : C → 
       visited : new.tally.visits ≡ t.visits
       visited = ap (λ (m : Machine C). m.tally.visits) changed
 
-      parts : IsPushed d old.stack.items new.stack.items
-          → (new.tally.visits + all_visits may at j new.stack.items ≤ old.tally.visits + all_visits may at j (old.stack.items ++ c ∷ []))
-          × (old.tally.visits + 1 + aheads ahead new.stack.items ≤ new.tally.visits + aheads ahead (old.stack.items ++ c ∷ []))
-          × All (AreNamed rest at j) new.stack.items
+      parts : IsPushed d (calls old) (calls new)
+          → (new.tally.visits + all_visits may at j (calls new) ≤ old.tally.visits + all_visits may at j ((calls old) ++ c ∷ []))
+          × (old.tally.visits + 1 + aheads ahead (calls new) ≤ new.tally.visits + aheads ahead ((calls old) ++ c ∷ []))
+          × All (AreNamed rest at j) (calls new)
       parts (inl e) = (
-        omega (arith, visited, ap (all_visits may at j) e, sum_by_push (visits_left may at j) old.stack.items c),
-        omega (arith, visited, ap (aheads ahead) e, sum_by_push (λ (x : Choice C). ahead x.cursor) old.stack.items c),
-        subst (All (AreNamed rest at j)) (sym e) (all_front (AreNamed rest at j) old.stack.items c named),
+        omega (arith, visited, ap (all_visits may at j) e, sum_by_push (visits_left may at j) (calls old) c),
+        omega (arith, visited, ap (aheads ahead) e, sum_by_push (λ (x : Left C). ahead x.cursor) (calls old) c),
+        subst (All (AreNamed rest at j)) (sym e) (all_front (AreNamed rest at j) (calls old) c named),
       )
       parts (inr e) = (
-        omega (arith, visited, ap (all_visits may at j) e, sum_by_push (visits_left may at j) old.stack.items c, sum_by_push (visits_left may at j) old.stack.items d),
-        omega (arith, visited, ap (aheads ahead) e, sum_by_push (λ (x : Choice C). ahead x.cursor) old.stack.items c, sum_by_push (λ (x : Choice C). ahead x.cursor) old.stack.items d),
-        subst (All (AreNamed rest at j)) (sym e) (all_named k old.stack.items same names named),
+        omega (arith, visited, ap (all_visits may at j) e, sum_by_push (visits_left may at j) (calls old) c, sum_by_push (visits_left may at j) (calls old) d),
+        omega (arith, visited, ap (aheads ahead) e, sum_by_push (λ (x : Left C). ahead x.cursor) (calls old) c, sum_by_push (λ (x : Left C). ahead x.cursor) (calls old) d),
+        subst (All (AreNamed rest at j)) (sym e) (all_named k (calls old) same names named),
       )

@@ -1,5 +1,9 @@
-pub mod Trees
+pub mod Control
 pub mod Machine
 pub mod Runs
+pub mod Terms
+pub mod Goals
+pub mod Beyond
 pub mod Cursors
 pub mod View
+pub mod Rows

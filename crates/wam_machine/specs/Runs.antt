@@ -1,14 +1,16 @@
 -- What a run says of its goal.
-use Rattle.std.specs.Prelude.{◌≡◌, ◌≢◌, ℕ, ◌+◌, ◌≤◌, List, [], ◌∷◌, length, take}
+use Rattle.std.specs.Prelude.{◌≡◌, ◌≢◌, ℕ, ◌+◌, ◌≤◌, List, [], ◌∷◌, length, take, All, IsTrue}
 use Rattle.std.specs.List.{sum_by, AllZip}
 use Rattle.prolog_terms.specs.Tree.{Tree}
+use Rattle.prolog_terms.specs.Substitutions.{occurs}
 use Rattle.journal_base.specs.Journal.{Journal}
 use Rattle.journal_base.specs.View.{View}
 use Rattle.journal_base.specs.Looks.{IsFair, TellsOnly, allowance, scans_of, kept_of, wants_of}
 use Rattle.journal_base.specs.declared.cause.How.{How}
+use Rattle.wam_machine.specs.declared.run.Goal.{Goal}
 use Rattle.wam_machine.specs.declared.run.Run.{Run}
 use Rattle.wam_machine.specs.declared.run.RunEnd.TheVariants.{Want}
-use Rattle.wam_machine.specs.Machine.{Setting, Look, Report, Transcript}
+use Rattle.wam_machine.specs.Machine.{Setting, Look, Report, Transcript, shown_list}
 
 abbrev pub report_of : Run → List Look → ℕ → Report
 report_of run looks tried = record { events = run.transcript; looks = looks; tried = tried; steps = run.steps; end = run.end }
@@ -42,13 +44,18 @@ pub record IsTranscribed (x : Setting) (causes : List ℕ) (goal : Tree) (run : 
   -- a base without indexes builds none
   pub unbuilt : causes ≡ 0 ∷ [] → (run.tally.built ≡ 0) × (run.tally.indexes ≡ 0)
 
-abbrev pub setting_of : View → ℕ → ℕ → Journal → Setting
-setting_of v start budget J = record { engine = v.number; journal = J; start = start; budget = budget }
+-- each shown variable stands in the goal
+abbrev pub AreShown : Goal → Type 0
+AreShown goal = All (λ s. IsTrue (occurs s.var goal.term)) goal.shown
+
+abbrev pub setting_of : View → ℕ → ℕ → Goal → Journal → Setting
+setting_of v start budget goal J = record { engine = v.number; journal = J; start = start; budget = budget; shown = shown_list goal.shown }
 
 -- A run of a goal of the command line by a base's engine, from a front on and within a budget: unless memory was wanted it is the transcript over
 -- each journal that the base stands for.
-pub record IsRunOf (v : View) (start budget : ℕ) (goal : Tree) (run : Run) : Type 0 where
+pub record IsRunOf (v : View) (start budget : ℕ) (goal : Goal) (run : Run) : Type 0 where
   pub engine : run.engine ≡ v.number
   pub line : run.line ≡ 0
   pub within : run.steps ≤ budget
-  pub transcribed : run.end ≢ Want → (J : Journal) → v.stands_for J → IsTranscribed (setting_of v start budget J) v.causes goal run
+  pub shown : run.end ≢ Want → run.shown ≡ goal.shown
+  pub transcribed : run.end ≢ Want → (J : Journal) → v.stands_for J → IsTranscribed (setting_of v start budget goal J) v.causes goal.term run

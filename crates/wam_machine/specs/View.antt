@@ -1,30 +1,33 @@
 -- What the engine keeps, as a state of the machine, over a journal.
-use Rattle.std.specs.Prelude.{◌≡◌, ℕ, ◌+◌, ◌*◌, ◌≤◌, ◌⊎◌, List, [], ◌∷◌, ◌++◌, length, All, Option, Some, None, MatchOption, Bool, true, false, IsTrue}
+use Rattle.std.specs.Prelude.{◌≡◌, ℕ, ◌+◌, ◌*◌, ◌≤◌, ◌⊎◌, List, [], ◌∷◌, ◌++◌, length, All, Option, Some, MatchOption, Bool, true, false, IsTrue}
 use Rattle.std.specs.List.{sum_by, AllZip}
-use Rattle.prolog_terms.specs.Tree.{Tree}
+use Rattle.prolog_terms.specs.Tree.{Tree, variable}
+use Rattle.prolog_terms.specs.Substitutions.{beyond}
+use Rattle.prolog_terms.specs.declared.shown.Shown.{Shown}
 use Rattle.prolog_terms.specs.declared.entry.Clause.{Clause}
-use Rattle.journal_base.specs.Calls.{Goal}
+use Rattle.journal_base.specs.Calls.{Goal as Asked}
 use Rattle.journal_base.specs.Journal.{Journal, clause_named}
 use Rattle.journal_base.specs.Looks.{most_raised, scans_of, kept_of, wants_of}
 use Rattle.journal_base.specs.View.{View, IsSound, Out, none_out, opened}
 use Rattle.journal_base.specs.declared.cause.How.{How}
 use Rattle.journal_base.specs.declared.tally.Tally.{Tally}
+use Rattle.wam_machine.specs.Terms.{Left, Said, AreTerms, said}
 use Rattle.wam_machine.specs.Cursors.{Begins, goal_of, part, clauses_left, visits_left, AreNamed}
 use Rattle.wam_machine.specs.Machine as spec
-use Rattle.wam_machine.specs.Machine.{State, Setting, Outcome, Goes, Ends, Look, Clauses, Going, Failing, Raising, move, goal_move, control_of, trying, made_all, Report, Runs, beginning}
+use Rattle.wam_machine.specs.Machine.{State, Setting, Outcome, Goes, Ends, Look, Clauses, Going, Failing, Raising, move, goal_move, trying, made_all, Report, Runs, beginning, shown_list}
+use Rattle.wam_machine.specs.Control.{control_of}
 use Rattle.wam_machine.specs.Runs.{IsFairLook, allowances}
 use Rattle.wam_machine.specs.declared.run.Event.{Event}
+use Rattle.wam_machine.specs.declared.run.Goal.{Goal}
 use Rattle.wam_machine.specs.declared.run.Run.{Run}
 use Rattle.wam_machine.specs.declared.run.RunEnd.{RunEnd}
-use Rattle.wam_machine.specs.declared.choice.Choice.{Choice}
 use Rattle.wam_machine.specs.declared.state.Mode.{Mode}
 use Rattle.wam_machine.specs.declared.state.Mode.TheVariants.{Going as IsGoing, Failing as IsFailing, Raising as RaisingBall}
-use Rattle.wam_machine.specs.declared.state.Pending.{Pending}
 use Rattle.wam_machine.specs.declared.state.Machine.{Machine}
 use Rattle.wam_machine.specs.declared.state.Host.{Host}
 
-abbrev pub setting : Host → Journal → Setting
-setting h j = record { engine = h.engine; journal = j; start = h.start; budget = h.budget }
+abbrev pub setting : {C : Type 0} → Host → Machine C → Journal → Setting
+setting h m j = record { engine = h.engine; journal = j; start = h.start; budget = h.budget; shown = (said m.terms).shown }
 
 -- ---- states
 
@@ -33,24 +36,25 @@ abbrev pub newest : {A B : Type 0} → (A → B) → List A → List B → List 
 newest f [] onto = onto
 newest f (x ∷ xs) onto = newest f xs (f x ∷ onto)
 
-abbrev pub goals_of : Option Pending → List Tree
-goals_of None = []
-goals_of (Some p) = p.goal ∷ []
-
 abbrev pub mode_of : Mode → spec.Mode
 mode_of IsGoing = Going
 mode_of IsFailing = Failing
 mode_of (RaisingBall ball) = Raising ball
 
--- a call with clauses left; no goal comes after it
-abbrev pub choice_of : {C : Type 0} → (C → Goal → Journal → List ℕ) → (C → ℕ) → Journal → Choice C → spec.Choice
-choice_of rest at j c = record { what = Clauses c.goal (clauses_left rest at j c); goals = [] }
+-- a call with clauses left
+abbrev pub choice_of : {C : Type 0} → (C → Asked → Journal → List ℕ) → (C → ℕ) → Journal → Left C → spec.Choice
+choice_of rest at j c = record { what = Clauses c.goal (clauses_left rest at j c); goals = c.goals; bindings = c.bindings }
 
-abbrev pub state_from : List Tree → List spec.Choice → spec.Mode → ℕ → List Event → ℕ → List Look → ℕ → List ℕ → State
-state_from goals stack mode steps events front looks tried fronts = record {
+abbrev pub stack_of : {C : Type 0} → (C → Asked → Journal → List ℕ) → (C → ℕ) → Journal → List (Left C) → List spec.Choice
+stack_of rest at j cs = newest (choice_of rest at j) cs []
+
+abbrev pub state_from : List Tree → List spec.Choice → (ℕ → Tree) → ℕ → spec.Mode → ℕ → List Event → ℕ → List Look → ℕ → List ℕ → State
+state_from goals stack bindings fresh mode steps events front looks tried fronts = record {
   mode = mode;
   goals = goals;
   stack = stack;
+  bindings = bindings;
+  fresh = fresh;
   steps = steps;
   events = events;
   looks = looks;
@@ -59,32 +63,42 @@ state_from goals stack mode steps events front looks tried fronts = record {
   fronts = fronts;
 }
 
-abbrev pub stack_of : {C : Type 0} → (C → Goal → Journal → List ℕ) → (C → ℕ) → Journal → List (Choice C) → List spec.Choice
-stack_of rest at j cs = newest (choice_of rest at j) cs []
+-- what the terms say, as a state
+abbrev pub state_with : {C : Type 0} → (C → Asked → Journal → List ℕ) → (C → ℕ) → Journal → Said C → spec.Mode → ℕ → List Event → ℕ → List Look → ℕ → List ℕ → State
+state_with rest at j t mode steps events front looks tried fronts =
+    state_from t.goals (stack_of rest at j t.stack) t.bindings t.fresh mode steps events front looks tried fronts
 
 -- the machine's state after these looks and so many clauses tried, with these fronts still to come
-abbrev pub state_of : {C : Type 0} → (C → Goal → Journal → List ℕ) → (C → ℕ) → Journal → Machine C → List Look → ℕ → List ℕ → State
+abbrev pub state_of : {C : Type 0} → (C → Asked → Journal → List ℕ) → (C → ℕ) → Journal → Machine C → List Look → ℕ → List ℕ → State
 state_of rest at j m looks tried fronts =
-    state_from (goals_of m.goal) (stack_of rest at j m.stack.items) (mode_of m.mode) m.steps m.events.items m.front looks tried fronts
+    state_with rest at j (said m.terms) (mode_of m.mode) m.steps m.events.items m.front looks tried fronts
+
+abbrev pub has_calls : {C : Type 0} → List (Left C) → Bool
+has_calls [] = false
+has_calls (c ∷ cs) = true
+
+-- the calls with clauses left
+abbrev pub calls : {C : Type 0} → Machine C → List (Left C)
+calls m = (said m.terms).stack
 
 -- ---- cursors
 
 -- so many cursors are out, with those of these calls
-abbrev pub all_out : {C : Type 0} → (C → ℕ) → Out → List (Choice C) → Out
+abbrev pub all_out : {C : Type 0} → (C → ℕ) → Out → List (Left C) → Out
 all_out group o [] = o
 all_out group o (c ∷ cs) = all_out group (opened (group c.cursor) o) cs
 
 -- each call's cursor may be used, and no other cursor is out
-pub record AreKept {C : Type 0} (serves : C → Goal → Type 0) (group : C → ℕ) (out : Out) (calls : List (Choice C)) : Type 0 where
+pub record AreKept {C : Type 0} (serves : C → Asked → Type 0) (group : C → ℕ) (out : Out) (calls : List (Left C)) : Type 0 where
   pub serve : All (λ c. serves c.cursor (goal_of c)) calls
   pub out_is : out ≡ all_out group none_out calls
 
 -- ---- counts
 
-abbrev pub all_visits : {C : Type 0} → (C → Goal → Journal → ℕ) → (C → ℕ) → Journal → List (Choice C) → ℕ
+abbrev pub all_visits : {C : Type 0} → (C → Asked → Journal → ℕ) → (C → ℕ) → Journal → List (Left C) → ℕ
 all_visits may at j cs = sum_by (visits_left may at j) cs
 
-abbrev pub aheads : {C : Type 0} → (C → ℕ) → List (Choice C) → ℕ
+abbrev pub aheads : {C : Type 0} → (C → ℕ) → List (Left C) → ℕ
 aheads ahead cs = sum_by (λ c. ahead c.cursor) cs
 
 -- what an engine keeps from move to move: its counts are within its steps
@@ -100,21 +114,28 @@ pub record IsHeld (budget seen steps front calls : ℕ) (t : Tally) : Type 0 whe
   pub indexes : t.indexes ≤ t.looks * most_raised
 
 -- the same over a journal: the clauses that are left have names, and the visits still to come are within the counts
-pub record IsHeldIn {C : Type 0} (rest : C → Goal → Journal → List ℕ) (may : C → Goal → Journal → ℕ) (at : C → ℕ) (j : Journal) (t : Tally) (calls : List (Choice C)) : Type 0 where
+pub record IsHeldIn {C : Type 0} (rest : C → Asked → Journal → List ℕ) (may : C → Asked → Journal → ℕ) (at : C → ℕ) (j : Journal) (t : Tally) (calls : List (Left C)) : Type 0 where
   pub named : All (AreNamed rest at j) calls
   pub raised : t.visits + all_visits may at j calls ≤ t.looks * most_raised
 
 -- the engine is ready for a move
-pub record IsReady {C : Type 0} (v : View) (serves : C → Goal → Type 0) (group : C → ℕ) (out : Out) (rest : C → Goal → Journal → List ℕ) (may : C → Goal → Journal → ℕ) (at : C → ℕ)
+pub record IsReady {C : Type 0} (v : View) (serves : C → Asked → Type 0) (group : C → ℕ) (out : Out) (rest : C → Asked → Journal → List ℕ) (may : C → Asked → Journal → ℕ) (at : C → ℕ)
     (budget : ℕ) (m : Machine C) : Type 0 where
   pub sound : IsSound v
-  pub kept : AreKept serves group out m.stack.items
-  pub held : IsHeld budget v.seen m.steps m.front (length m.stack.items) m.tally
-  pub each : (j : Journal) → Begins v j → IsHeldIn rest may at j m.tally m.stack.items
+  pub terms : AreTerms m.terms
+  pub kept : AreKept serves group out (calls m)
+  pub held : IsHeld budget v.seen m.steps m.front (length (calls m)) m.tally
+  pub each : (j : Journal) → Begins v j → IsHeldIn rest may at j m.tally (calls m)
+
+-- what a move leaves: terms that are well kept, the same shown term, and counts within its steps
+pub record IsLeft {C : Type 0} (budget seen : ℕ) (old new : Machine C) : Type 0 where
+  pub terms : AreTerms new.terms
+  pub shown : (said new.terms).shown ≡ (said old.terms).shown
+  pub held : IsHeld budget seen new.steps new.front (length (calls new)) new.tally
 
 -- what was done between two moments, over a journal: looks, how each was made, and how many clauses were tried
-pub record Works {C : Type 0} (may : C → Goal → Journal → ℕ) (at : C → ℕ) (ahead : C → ℕ) (causes : List ℕ) (j : Journal)
-    (old new : Tally) (before after : List (Choice C)) (looked : List Look) (hows : List How) (given : ℕ) : Type 0 where
+pub record Works {C : Type 0} (may : C → Asked → Journal → ℕ) (at : C → ℕ) (ahead : C → ℕ) (causes : List ℕ) (j : Journal)
+    (old new : Tally) (before after : List (Left C)) (looked : List Look) (hows : List How) (given : ℕ) : Type 0 where
   pub fair : AllZip (IsFairLook causes j) looked hows
   pub looks : new.looks ≡ old.looks + length looked
   pub scans : new.scans ≡ old.scans + sum_by scans_of hows
@@ -127,7 +148,7 @@ pub record Works {C : Type 0} (may : C → Goal → Journal → ℕ) (at : C →
 -- ---- moves
 
 -- a function of states goes on from the old machine to the new one, over a journal
-pub record GoesOn {C : Type 0} (rest : C → Goal → Journal → List ℕ) (may : C → Goal → Journal → ℕ) (at : C → ℕ) (ahead : C → ℕ) (causes : List ℕ) (f : State → Outcome) (j : Journal)
+pub record GoesOn {C : Type 0} (rest : C → Asked → Journal → List ℕ) (may : C → Asked → Journal → ℕ) (at : C → ℕ) (ahead : C → ℕ) (causes : List ℕ) (f : State → Outcome) (j : Journal)
     (old new : Machine C) : Type 0 where
   pub added : List ℕ
   pub looked : List Look
@@ -135,17 +156,17 @@ pub record GoesOn {C : Type 0} (rest : C → Goal → Journal → List ℕ) (may
   pub given : ℕ
   pub fronts_are : new.fronts.items ≡ old.fronts.items ++ added
   pub goes : (looks : List Look) (tried : ℕ) (fronts : List ℕ) → f (state_of rest at j old looks tried (added ++ fronts)) ≡ Goes (state_of rest at j new (looks ++ looked) (tried + given) fronts)
-  pub works : Works may at ahead causes j old.tally new.tally old.stack.items new.stack.items looked hows given
-  pub held : IsHeldIn rest may at j new.tally new.stack.items
+  pub works : Works may at ahead causes j old.tally new.tally (calls old) (calls new) looked hows given
+  pub held : IsHeldIn rest may at j new.tally (calls new)
 
 -- the function of states ends the run, if the journal has no other entries of the engine
-pub record ComesToEnd {C : Type 0} (rest : C → Goal → Journal → List ℕ) (at : C → ℕ) (f : State → Outcome) (x : Setting) (old new : Machine C) (end : RunEnd) : Type 0 where
+pub record ComesToEnd {C : Type 0} (rest : C → Asked → Journal → List ℕ) (at : C → ℕ) (f : State → Outcome) (x : Setting) (old new : Machine C) (end : RunEnd) : Type 0 where
   pub fronts_are : new.fronts.items ≡ old.fronts.items
   pub tally_is : new.tally ≡ old.tally
   pub ends : IsTrue (made_all x) → (looks : List Look) (tried : ℕ) → f (state_of rest at x.journal old looks tried [])
       ≡ Ends (record { events = new.events.items; looks = looks; tried = tried; steps = new.steps; end = end })
 
-abbrev pub Does : {C : Type 0} → (C → Goal → Journal → List ℕ) → (C → Goal → Journal → ℕ) → (C → ℕ) → (C → ℕ) → List ℕ → (State → Outcome) → Setting → Machine C → Machine C → Option RunEnd → Type 0
+abbrev pub Does : {C : Type 0} → (C → Asked → Journal → List ℕ) → (C → Asked → Journal → ℕ) → (C → ℕ) → (C → ℕ) → List ℕ → (State → Outcome) → Setting → Machine C → Machine C → Option RunEnd → Type 0
 Does rest may at ahead causes f x old new o = MatchOption o (GoesOn rest may at ahead causes f x.journal old new) (λ end. ComesToEnd rest at f x old new end)
 
 -- a goal's move
@@ -163,25 +184,27 @@ settled_mode true = IsGoing
 settled_mode false = IsFailing
 
 -- the first clause that is left of a call is tried, over a journal
-pub record Tries {C : Type 0} (rest : C → Goal → Journal → List ℕ) (may : C → Goal → Journal → ℕ) (at : C → ℕ) (ahead : C → ℕ) (j : Journal) (c : Choice C) (old new : Machine C) : Type 0 where
+pub record Tries {C : Type 0} (rest : C → Asked → Journal → List ℕ) (may : C → Asked → Journal → ℕ) (at : C → ℕ) (ahead : C → ℕ) (j : Journal) (c : Left C) (old new : Machine C) : Type 0 where
   pub given : ℕ
   pub tried : (looks : List Look) (tried : ℕ) (fronts : List ℕ) → trying c.goal (clauses_left rest at j c) (state_of rest at j old looks tried fronts) ≡ Goes (state_of rest at j new looks (tried + given) fronts)
-  pub most : new.tally.visits + all_visits may at j new.stack.items ≤ old.tally.visits + all_visits may at j (old.stack.items ++ c ∷ [])
-  pub least : old.tally.visits + given + aheads ahead new.stack.items ≤ new.tally.visits + aheads ahead (old.stack.items ++ c ∷ [])
-  pub named : All (AreNamed rest at j) new.stack.items
+  pub most : new.tally.visits + all_visits may at j (calls new) ≤ old.tally.visits + all_visits may at j ((calls old) ++ c ∷ [])
+  pub least : old.tally.visits + given + aheads ahead (calls new) ≤ new.tally.visits + aheads ahead ((calls old) ++ c ∷ [])
+  pub named : All (AreNamed rest at j) (calls new)
 
 -- a clause of a call, by its name, is tried before those that are left, over a journal
-pub record Attempts {C : Type 0} (rest : C → Goal → Journal → List ℕ) (may : C → Goal → Journal → ℕ) (at : C → ℕ) (j : Journal) (name : ℕ) (c : Choice C) (old new : Machine C) : Type 0 where
+pub record Attempts {C : Type 0} (rest : C → Asked → Journal → List ℕ) (may : C → Asked → Journal → ℕ) (at : C → ℕ) (j : Journal) (name : ℕ) (c : Left C) (old new : Machine C) : Type 0 where
   pub clause : Clause
   pub clause_is : clause_named (part at j c) name ≡ Some clause
   pub tried : (looks : List Look) (tried : ℕ) (fronts : List ℕ) → trying c.goal (clause ∷ clauses_left rest at j c) (state_of rest at j old looks tried fronts) ≡ Goes (state_of rest at j new looks (tried + 1) fronts)
 
 -- the stack is as it was, or the call lies on it
-abbrev pub IsPushed : {C : Type 0} → Choice C → List (Choice C) → List (Choice C) → Type 0
+abbrev pub IsPushed : {C : Type 0} → Left C → List (Left C) → List (Left C) → Type 0
 IsPushed c old new = (new ≡ old) ⊎ (new ≡ old ++ c ∷ [])
 
--- nothing was done but to the goal, the mode, the stack, the names and the count of visits
+-- nothing was done but to the mode, the terms and the count of visits; the shown term is the same
 pub record KeepsCounts {C : Type 0} (old new : Machine C) : Type 0 where
+  pub terms : AreTerms new.terms
+  pub shown : (said new.terms).shown ≡ (said old.terms).shown
   pub steps : new.steps ≡ old.steps
   pub events : new.events.items ≡ old.events.items
   pub front : new.front ≡ old.front
@@ -193,11 +216,15 @@ pub record KeepsCounts {C : Type 0} (old new : Machine C) : Type 0 where
 abbrev pub no_tally : Tally
 no_tally = record { looks = 0; scans = 0; kept = 0; wants = 0; visits = 0; built = 0; indexes = 0 }
 
+-- what the terms say before the first move
+abbrev pub said_at_first : {C : Type 0} → Goal → Said C
+said_at_first goal = record { goals = goal.term ∷ []; bindings = variable; fresh = beyond goal.term; shown = shown_list goal.shown; stack = [] }
+
 -- the machine before its first move
-pub record IsBeginning {C : Type 0} (goal : Tree) (start : ℕ) (m : Machine C) : Type 0 where
+pub record IsBeginning {C : Type 0} (goal : Goal) (start : ℕ) (m : Machine C) : Type 0 where
   pub mode : m.mode ≡ IsGoing
-  pub goal_is : goals_of m.goal ≡ goal ∷ []
-  pub stack : m.stack.items ≡ []
+  pub terms : AreTerms m.terms
+  pub said_is : said m.terms ≡ said_at_first goal
   pub steps : m.steps ≡ 0
   pub events : m.events.items ≡ []
   pub front : m.front ≡ start
@@ -205,14 +232,15 @@ pub record IsBeginning {C : Type 0} (goal : Tree) (start : ℕ) (m : Machine C) 
   pub tally : m.tally ≡ no_tally
 
 -- what the machine did, as a run
-abbrev pub run_of : {C : Type 0} → ℕ → Machine C → RunEnd → Run
-run_of engine m end = record { engine = engine; line = 0; transcript = m.events.items; fronts = m.fronts.items; tally = m.tally; steps = m.steps; end = end }
+abbrev pub run_of : {C : Type 0} → ℕ → List Shown → Machine C → RunEnd → Run
+run_of engine shown m end =
+    record { engine = engine; line = 0; shown = shown; transcript = m.events.items; fronts = m.fronts.items; tally = m.tally; steps = m.steps; end = end }
 
 -- Whichever fronts come, a run from the machine's state on is the rest of a run of the goal from the beginning, which took the
 -- machine's fronts.
-pub record IsLed {C : Type 0} (rest : C → Goal → Journal → List ℕ) (may : C → Goal → Journal → ℕ) (at : C → ℕ) (ahead : C → ℕ) (causes : List ℕ) (x : Setting) (goal : Tree) (m : Machine C) : Type 0 where
+pub record IsLed {C : Type 0} (rest : C → Asked → Journal → List ℕ) (may : C → Asked → Journal → ℕ) (at : C → ℕ) (ahead : C → ℕ) (causes : List ℕ) (x : Setting) (goal : Tree) (m : Machine C) : Type 0 where
   pub looks : List Look
   pub hows : List How
   pub tried : ℕ
   pub leads : (fronts : List ℕ) (r : Report) → Runs x (state_of rest at x.journal m looks tried fronts) r → Runs x (beginning x goal (m.fronts.items ++ fronts)) r
-  pub works : Works may at ahead causes x.journal no_tally m.tally [] m.stack.items looks hows tried
+  pub works : Works may at ahead causes x.journal no_tally m.tally [] (calls m) looks hows tried

@@ -1,13 +1,13 @@
 // The engine.
-ghost use Rattle.std.specs.Prelude.{◌≡◌, ◌≤◌, ◌^◌, IfOk, IfErr, IsTrue, is_some};
-ghost use Rattle.prolog_terms.specs.Indicators.{indicator_of};
+ghost use Rattle.std.specs.Prelude.{◌≡◌, ◌≤◌, ◌^◌, IfOk, IfErr, IsTrue};
+ghost use Rattle.prolog_terms.specs.Clauses.{is_body};
 ghost use Rattle.journal_base.specs.View.{Looks, none_out};
-ghost use Rattle.wam_machine.specs.Runs.{IsRunOf};
+ghost use Rattle.wam_machine.specs.Runs.{IsRunOf, AreShown};
 
 use crate::run::{Events, Fronts, Goal, Run, RunEnd};
 use crate::running::run;
 use journal_base::{Base, Gate, Tally};
-use prolog_terms::Ops;
+use prolog_terms::{Ops, ShownVariables};
 use std::alloc::Global;
 use std::sync::Wait;
 
@@ -32,10 +32,11 @@ impl<B: Base> Engine<B> {
     /// Runs a goal, of so many steps at most, and passes the gate before each look. No cursor of the base may be out, and
     /// none is out afterwards. The run adds no entry of its engine to the journal.
     pub fn solve<R: Wait, G: Gate>(&mut self, rt: &R, goal: &Goal, budget: u64, gate: &G) -> Run
-        requires goal { IsTrue (is_some (indicator_of goal.now.term)) }
+        requires goal { IsTrue (is_body goal.now.term) }
+        requires shown { AreShown goal.now }
         requires budget { (1 ≤ budget) × (budget ≤ 10 ^ 11) }
         requires out { B.out self.old.base ≡ none_out }
-        ensures run { IsRunOf (B.view self.new.base) (B.view self.old.base).seen budget goal.now.term result }
+        ensures run { IsRunOf (B.view self.new.base) (B.view self.old.base).seen budget goal.now result }
         ensures seen { Looks (B.view self.old.base) (B.view self.new.base) }
         ensures becomes { B.becomes self.old.base self.new.base }
         ensures out { B.out self.new.base ≡ none_out }
@@ -57,6 +58,7 @@ impl<B: Base> Engine<B> {
         Run {
             engine: self.base.number(),
             line: 0,
+            shown: ShownVariables::new(self.alloc),
             transcript: Events::of(Vec::new(self.alloc)),
             fronts: Fronts::of(Vec::new(self.alloc)),
             tally: Tally::new(),

@@ -1,8 +1,8 @@
 // The machine's moves, each on its own.
-ghost use Rattle.std.specs.Prelude.{ℕ, List, ◌≡◌, ◌≤◌, ◌^◌, ◌+◌, ◌<◌, ◌++◌, ◌∷◌, [], All, IsTrue, is_some, IfOk, OnOk, None, Some, IsSome, MatchOption, if◌then◌else◌, length, take, codes};
-ghost use Rattle.prolog_terms.specs.Tree.{Tree, atom};
+ghost use Rattle.std.specs.Prelude.{ℕ, Bool, List, ◌≡◌, ◌≤◌, ◌^◌, ◌+◌, ◌<◌, ◌++◌, ◌∷◌, [], All, IsTrue, IfOk, OnOk, OnErr, None, Some, IsSome, MatchOption, if◌then◌else◌, length, take};
+ghost use Rattle.prolog_terms.specs.Tree.{Tree};
+ghost use Rattle.prolog_terms.specs.Substitutions.{substituted, numbered};
 ghost use Rattle.prolog_terms.specs.declared.entry.Indicator.{Indicator};
-ghost use Rattle.prolog_terms.specs.Indicators.{indicator_of};
 ghost use Rattle.prolog_terms.specs.Faults.{fault_tree};
 ghost use Rattle.prolog_terms.specs.declared.fault.Fault.TheVariants.{Existence};
 ghost use Rattle.journal_base.specs.Keys.{keys as keys_in};
@@ -10,22 +10,26 @@ ghost use Rattle.journal_base.specs.Calls.{AreKeysOf, Goal, goal_keys};
 ghost use Rattle.journal_base.specs.Journal.{Journal, clause_named, number_of, procedures};
 ghost use Rattle.journal_base.specs.Looks.{HasRoom};
 ghost use Rattle.journal_base.specs.View.{IsSound, Looks, opened, has_more};
-ghost use Rattle.wam_machine.specs.Machine.{calling, is_true as is_true_goal, move, body_goals};
-ghost use Rattle.wam_machine.specs.Trees.{same_tree};
-ghost use Rattle.wam_machine.specs.Cursors.{Begins, goal_of, part, names_left, AreNamed};
-ghost use Rattle.wam_machine.specs.View.{setting, IsReady, AreKept, IsHeld, Does, GoesOn, Tries, Attempts, IsPushed, KeepsCounts, IsRaising, performs_goal, settled_mode, goals_of};
+ghost use Rattle.wam_machine.specs.Machine.{calling, move};
+ghost use Rattle.wam_machine.specs.Terms.{AreTerms, IsGoal, IsBuilt, AreEquated, said, built, call_now};
+ghost use Rattle.wam_machine.specs.Goals.{IsControl, IsSimple};
+ghost use Rattle.wam_machine.specs.Cursors.{Begins, goal_of, names_left, AreNamed};
+ghost use Rattle.wam_machine.specs.View.{setting, calls, has_calls, IsReady, IsLeft, AreKept, Does, GoesOn, Tries, Attempts, IsPushed, KeepsCounts, IsRaising, performs_goal, settled_mode};
 
-use crate::choice::{Choice, Opened};
+use crate::control::{Control, goal_control};
 use crate::cursor::{fetch, more, next, open};
+use crate::enter::{enter, equate as equate_terms};
+use crate::keys::keys as keys_now;
 use crate::run::{Event, RunEnd};
-use crate::state::{Host, Machine, Mode, Pending};
-use journal_base::{Base, Gate, Keys, keys_of};
-use prolog_terms::{
-    Fault, Indicator, Node, Term, Want, copy_indicator, fault_term, term_indicator,
-};
+use crate::shown::values;
+use crate::state::{Host, Machine, Mode};
+use crate::terms::{Call, Opened, any_left, go_back, leave, push_goal, take_goal};
+use journal_base::{Base, Gate, Keys};
+use prolog_terms::{Fault, Indicator, Term, Want, copy_indicator, fault_term};
 use std::alloc::{AllocFailed, Global};
 use std::mem;
 use std::sync::Wait;
+use term_store::Cell;
 
 /// The error of a call of an undeclared procedure.
 fn missing(alloc: Global, indicator: &Indicator) -> Result<Term, Want>
@@ -33,22 +37,6 @@ fn missing(alloc: Global, indicator: &Indicator) -> Result<Term, Want>
 {
     let fault = Fault::Existence(copy_indicator(indicator)?);
     fault_term(alloc, &fault, indicator)
-}
-
-/// Whether it is the atom `true`.
-fn is_true_atom(term: &Term) -> bool
-    ensures { result ≡ same_tree (atom (codes "true")) term.now }
-{
-    match term.nodes().first() {
-        Some(Node::Atom(name)) => name.bytes() == b"true".as_slice(),
-        _ => false,
-    }
-}
-
-fn is_true(indicator: &Indicator) -> bool
-    ensures { result ≡ is_true_goal indicator.now }
-{
-    indicator.name.bytes() == b"true".as_slice() && indicator.arity == 0
 }
 
 /// One move. It answers the run's end, where it comes to it.
@@ -63,9 +51,9 @@ pub(crate) fn advance<B: Base, R: Wait, G: Gate>(
     requires budget { host.now.budget ≤ 10 ^ 11 }
     ensures seen { Looks (B.view base.old) (B.view base.new) }
     ensures becomes { B.becomes base.old base.new }
-    ensures kept { AreKept (B.serves base.new) B.group (B.out base.new) machine.new.stack.items }
-    ensures held { OnOk result (IsHeld host.now.budget (B.view base.new).seen machine.new.steps machine.new.front (length machine.new.stack.items) machine.new.tally) }
-    ensures moves { IfOk result (λ o. (j : Journal) → Begins (B.view base.new) j → Does B.rest B.may_visit B.looked_at B.ahead (B.view base.new).causes (move (setting host.now j)) (setting host.now j) machine.old machine.new o) }
+    ensures kept { AreKept (B.serves base.new) B.group (B.out base.new) (calls machine.new) }
+    ensures left { OnOk result (IsLeft host.now.budget (B.view base.new).seen machine.old machine.new) }
+    ensures moves { IfOk result (λ o. (j : Journal) → Begins (B.view base.new) j → Does B.rest B.may_visit B.looked_at B.ahead (B.view base.new).causes (move (setting host.now machine.old j)) (setting host.now machine.old j) machine.old machine.new o) }
 {
     match &machine.mode {
         Mode::Going => go_on(base, machine, host, rt, gate),
@@ -98,23 +86,22 @@ fn retry<B: Base>(
     requires budget { host.now.budget ≤ 10 ^ 11 }
     ensures seen { Looks (B.view base.old) (B.view base.new) }
     ensures becomes { B.becomes base.old base.new }
-    ensures kept { AreKept (B.serves base.new) B.group (B.out base.new) machine.new.stack.items }
-    ensures held { OnOk result (IsHeld host.now.budget (B.view base.new).seen machine.new.steps machine.new.front (length machine.new.stack.items) machine.new.tally) }
-    ensures moves { IfOk result (λ o. (j : Journal) → Begins (B.view base.new) j → Does B.rest B.may_visit B.looked_at B.ahead (B.view base.new).causes (move (setting host.now j)) (setting host.now j) machine.old machine.new o) }
+    ensures kept { AreKept (B.serves base.new) B.group (B.out base.new) (calls machine.new) }
+    ensures left { OnOk result (IsLeft host.now.budget (B.view base.new).seen machine.old machine.new) }
+    ensures moves { IfOk result (λ o. (j : Journal) → Begins (B.view base.new) j → Does B.rest B.may_visit B.looked_at B.ahead (B.view base.new).causes (move (setting host.now machine.old j)) (setting host.now machine.old j) machine.old machine.new o) }
 {
-    if machine.stack.is_empty() {
+    if !any_left(&machine.terms) {
         return Ok(Some(RunEnd::Exhausted));
     }
     if machine.steps == host.budget {
         return Ok(Some(RunEnd::Spent(machine.steps)));
     }
-    match machine.stack.pop() {
+    match go_back(&mut machine.terms) {
         None => Ok(None),
-        Some(choice) => {
+        Some(call) => {
             machine.steps += 1;
-            machine.goal = None;
             machine.mode = Mode::Going;
-            take(base, machine, choice)?;
+            take(base, machine, call)?;
             Ok(None)
         }
     }
@@ -124,45 +111,40 @@ fn retry<B: Base>(
 fn take<B: Base>(
     base: &mut B,
     machine: &mut Machine<B::Cursor>,
-    choice: Choice<B::Cursor>,
+    call: Call<B::Cursor>,
 ) -> Result<(), Want>
     requires sound { IsSound (B.view base.old) }
-    requires kept { AreKept (B.serves base.old) B.group (B.out base.old) (machine.old.stack.items ++ choice ∷ []) }
-    requires named { (j : Journal) → Begins (B.view base.old) j → All (AreNamed B.rest B.looked_at j) (machine.old.stack.items ++ choice ∷ []) }
+    requires terms { AreTerms machine.old.terms }
+    requires goal { IsGoal machine.old.terms call.goal }
+    requires kept { AreKept (B.serves base.old) B.group (B.out base.old) (calls machine.old ++ call_now machine.old.terms call ∷ []) }
+    requires named { (j : Journal) → Begins (B.view base.old) j → All (AreNamed B.rest B.looked_at j) (calls machine.old ++ call_now machine.old.terms call ∷ []) }
     requires room { HasRoom machine.old.tally }
-    requires idle { machine.old.goal ≡ None }
     ensures seen { Looks (B.view base.old) (B.view base.new) }
     ensures becomes { B.becomes base.old base.new }
-    ensures kept { AreKept (B.serves base.new) B.group (B.out base.new) machine.new.stack.items }
+    ensures kept { AreKept (B.serves base.new) B.group (B.out base.new) (calls machine.new) }
     ensures counts { OnOk result (KeepsCounts machine.old machine.new) }
-    ensures grown { OnOk result (length machine.new.stack.items ≤ length machine.old.stack.items + 1) }
-    ensures tried { OnOk result ((j : Journal) → Begins (B.view base.new) j → Tries B.rest B.may_visit B.looked_at B.ahead j choice machine.old machine.new) }
+    ensures grown { OnOk result (length (calls machine.new) ≤ length (calls machine.old) + 1) }
+    ensures tried { OnOk result ((j : Journal) → Begins (B.view base.new) j → Tries B.rest B.may_visit B.looked_at B.ahead j (call_now machine.old.terms call) machine.old machine.new) }
 {
-    let keys = match keys_of(choice.goal.nodes(), &mut machine.names) {
-        Ok(keys) => keys,
-        Err(want) => {
-            give_up(base, choice);
-            return Err(want);
-        }
-    };
-    try_next(base, machine, choice, &keys)?;
+    let keys = keys_now(&machine.terms, call.goal);
+    try_next(base, machine, call, &keys)?;
     Ok(())
 }
 
 /// Gives up a call, with its cursor.
-pub(crate) fn give_up<B: Base>(base: &mut B, choice: Choice<B::Cursor>)
-    requires serves { B.serves base.old choice.cursor (goal_of choice) }
-    requires out { 0 < (B.out base.old).of_group (B.group choice.cursor) }
+pub(crate) fn give_up<B: Base>(base: &mut B, call: Call<B::Cursor>)
+    requires serves { (g : Goal) × B.serves base.old call.cursor g }
+    requires out { 0 < (B.out base.old).of_group (B.group call.cursor) }
     ensures seen { Looks (B.view base.old) (B.view base.new) }
     ensures becomes { B.becomes base.old base.new }
-    ensures out { B.out base.old ≡ opened (B.group choice.cursor) (B.out base.new) }
+    ensures out { B.out base.old ≡ opened (B.group call.cursor) (B.out base.new) }
     ensures others { (c : B.Cursor) (g : Goal) → B.serves base.old c g → 0 < (B.out base.new).of_group (B.group c) → B.serves base.new c g }
 {
-    let Choice {
+    let Call {
         goal: _,
         procedure: _,
         cursor,
-    } = choice;
+    } = call;
     base.drop_cursor(cursor);
 }
 
@@ -170,25 +152,26 @@ pub(crate) fn give_up<B: Base>(base: &mut B, choice: Choice<B::Cursor>)
 fn try_next<B: Base>(
     base: &mut B,
     machine: &mut Machine<B::Cursor>,
-    choice: Choice<B::Cursor>,
+    call: Call<B::Cursor>,
     keys: &Keys,
 ) -> Result<(), Want>
     requires sound { IsSound (B.view base.old) }
-    requires kept { AreKept (B.serves base.old) B.group (B.out base.old) (machine.old.stack.items ++ choice ∷ []) }
-    requires named { (j : Journal) → Begins (B.view base.old) j → All (AreNamed B.rest B.looked_at j) (machine.old.stack.items ++ choice ∷ []) }
+    requires terms { AreTerms machine.old.terms }
+    requires goal { IsGoal machine.old.terms call.goal }
+    requires kept { AreKept (B.serves base.old) B.group (B.out base.old) (calls machine.old ++ call_now machine.old.terms call ∷ []) }
+    requires named { (j : Journal) → Begins (B.view base.old) j → All (AreNamed B.rest B.looked_at j) (calls machine.old ++ call_now machine.old.terms call ∷ []) }
     requires room { HasRoom machine.old.tally }
-    requires idle { machine.old.goal ≡ None }
-    requires keys { AreKeysOf machine.old.names keys.now.at }
-    requires of { goal_keys machine.old.names keys.now.at ≡ keys_in choice.goal }
+    requires keys { AreKeysOf machine.old.terms.names keys.now.at }
+    requires of { goal_keys machine.old.terms.names keys.now.at ≡ keys_in (substituted (said machine.old.terms).bindings (built machine.old.terms call.goal)) }
     ensures seen { Looks (B.view base.old) (B.view base.new) }
     ensures becomes { B.becomes base.old base.new }
-    ensures kept { AreKept (B.serves base.new) B.group (B.out base.new) machine.new.stack.items }
+    ensures kept { AreKept (B.serves base.new) B.group (B.out base.new) (calls machine.new) }
     ensures counts { OnOk result (KeepsCounts machine.old machine.new) }
-    ensures grown { OnOk result (length machine.new.stack.items ≤ length machine.old.stack.items + 1) }
-    ensures tried { OnOk result ((j : Journal) → Begins (B.view base.new) j → Tries B.rest B.may_visit B.looked_at B.ahead j choice machine.old machine.new) }
+    ensures grown { OnOk result (length (calls machine.new) ≤ length (calls machine.old) + 1) }
+    ensures tried { OnOk result ((j : Journal) → Begins (B.view base.new) j → Tries B.rest B.may_visit B.looked_at B.ahead j (call_now machine.old.terms call) machine.old machine.new) }
 {
-    let mut left = choice;
-    match next(base, &mut left, keys, &machine.names, &mut machine.tally) {
+    let mut left = call;
+    match next(base, &machine.terms, &mut left, keys, &mut machine.tally) {
         None => {
             give_up(base, left);
             machine.mode = Mode::Failing;
@@ -205,29 +188,33 @@ fn try_next<B: Base>(
 fn attempt<B: Base>(
     base: &mut B,
     machine: &mut Machine<B::Cursor>,
-    choice: Choice<B::Cursor>,
+    call: Call<B::Cursor>,
     name: u64,
 ) -> Result<(), Want>
-    requires kept { AreKept (B.serves base.old) B.group (B.out base.old) (machine.old.stack.items ++ choice ∷ []) }
-    requires named { (j : Journal) → Begins (B.view base.old) j → All (AreNamed B.rest B.looked_at j) (machine.old.stack.items ++ choice ∷ []) }
-    requires name { (j : Journal) → Begins (B.view base.old) j → IsSome (clause_named (part B.looked_at j choice) name) }
-    requires idle { machine.old.goal ≡ None }
+    requires terms { AreTerms machine.old.terms }
+    requires goal { IsGoal machine.old.terms call.goal }
+    requires kept { AreKept (B.serves base.old) B.group (B.out base.old) (calls machine.old ++ call_now machine.old.terms call ∷ []) }
+    requires named { (j : Journal) → Begins (B.view base.old) j → All (AreNamed B.rest B.looked_at j) (calls machine.old ++ call_now machine.old.terms call ∷ []) }
+    requires name { (j : Journal) → Begins (B.view base.old) j → IsSome (clause_named (take (B.looked_at call.cursor) j) name) }
     ensures seen { Looks (B.view base.old) (B.view base.new) }
     ensures becomes { B.becomes base.old base.new }
-    ensures kept { AreKept (B.serves base.new) B.group (B.out base.new) machine.new.stack.items }
-    ensures same { OnOk result (machine.new ≡ record machine.old { goal = machine.new.goal; mode = machine.new.mode; stack = machine.new.stack }) }
-    ensures pushed { OnOk result (IsPushed choice machine.old.stack.items machine.new.stack.items) }
-    ensures attempted { OnOk result ((j : Journal) → Begins (B.view base.new) j → Attempts B.rest B.may_visit B.looked_at j name choice machine.old machine.new) }
+    ensures kept { AreKept (B.serves base.new) B.group (B.out base.new) (calls machine.new) }
+    ensures terms { OnOk result (AreTerms machine.new.terms) }
+    ensures shown { OnOk result ((said machine.new.terms).shown ≡ (said machine.old.terms).shown) }
+    ensures same { OnOk result (machine.new ≡ record machine.old { mode = machine.new.mode; terms = machine.new.terms }) }
+    ensures pushed { OnOk result (IsPushed (call_now machine.old.terms call) (calls machine.old) (calls machine.new)) }
+    ensures attempted { OnOk result ((j : Journal) → Begins (B.view base.new) j → Attempts B.rest B.may_visit B.looked_at j name (call_now machine.old.terms call) machine.old machine.new) }
 {
-    match fetch(base, &choice, name) {
+    match fetch(base, &call, name) {
         Err(want) => {
-            give_up(base, choice);
+            give_up(base, call);
             Err(want)
         }
         Ok(clause) => {
-            let same = clause.head == choice.goal;
-            keep(base, machine, choice)?;
-            settle(machine, same, clause.body);
+            let goal = call.goal;
+            keep(base, machine, call)?;
+            let entered = enter(&mut machine.terms, goal, &clause)?;
+            settle(machine, entered);
             Ok(())
         }
     }
@@ -237,19 +224,25 @@ fn attempt<B: Base>(
 fn keep<B: Base>(
     base: &mut B,
     machine: &mut Machine<B::Cursor>,
-    choice: Choice<B::Cursor>,
+    call: Call<B::Cursor>,
 ) -> Result<(), Want>
-    requires kept { AreKept (B.serves base.old) B.group (B.out base.old) (machine.old.stack.items ++ choice ∷ []) }
+    requires terms { AreTerms machine.old.terms }
+    requires goal { IsGoal machine.old.terms call.goal }
+    requires kept { AreKept (B.serves base.old) B.group (B.out base.old) (calls machine.old ++ call_now machine.old.terms call ∷ []) }
     ensures seen { Looks (B.view base.old) (B.view base.new) }
     ensures becomes { B.becomes base.old base.new }
-    ensures kept { AreKept (B.serves base.new) B.group (B.out base.new) machine.new.stack.items }
-    ensures same { OnOk result (machine.new ≡ record machine.old { stack = machine.new.stack }) }
+    ensures kept { AreKept (B.serves base.new) B.group (B.out base.new) (calls machine.new) }
+    ensures terms { AreTerms machine.new.terms }
+    ensures goal { IsGoal machine.new.terms call.goal }
+    ensures built { built machine.new.terms call.goal ≡ built machine.old.terms call.goal }
+    ensures same { OnOk result (machine.new ≡ record machine.old { terms = machine.new.terms }) }
+    ensures said { said machine.new.terms ≡ record (said machine.old.terms) { stack = calls machine.new } }
     ensures stack { OnOk result ((j : Journal) → Begins (B.view base.new) j
-        → machine.new.stack.items ≡ (if has_more (names_left B.rest B.looked_at j choice) then machine.old.stack.items ++ choice ∷ [] else machine.old.stack.items)) }
-    ensures pushed { OnOk result (IsPushed choice machine.old.stack.items machine.new.stack.items) }
+        → calls machine.new ≡ (if has_more (names_left B.rest B.looked_at j (call_now machine.old.terms call)) then calls machine.old ++ call_now machine.old.terms call ∷ [] else calls machine.old)) }
+    ensures pushed { OnOk result (IsPushed (call_now machine.old.terms call) (calls machine.old) (calls machine.new)) }
 {
-    if more(base, &choice) {
-        match machine.stack.push(choice) {
+    if more(base, &call) {
+        match leave(&mut machine.terms, call) {
             Ok(()) => {
                 let _front = base.front();
                 Ok(())
@@ -261,31 +254,20 @@ fn keep<B: Base>(
             }
         }
     } else {
-        give_up(base, choice);
+        give_up(base, call);
         Ok(())
     }
 }
 
-/// Goes on with a clause's body where the goal was the clause's head, and else fails.
-fn settle<C>(machine: &mut Machine<C>, same: bool, body: Term)
-    requires { IsTrue (is_some (indicator_of body)) }
-    ensures same { machine.new ≡ record machine.old { goal = machine.new.goal; mode = machine.new.mode } }
-    ensures mode { machine.new.mode ≡ settled_mode same }
-    ensures goal { goals_of machine.new.goal ≡ (if same then body_goals body else goals_of machine.old.goal) }
+/// Goes on where two terms were made one, and else fails.
+fn settle<C>(machine: &mut Machine<C>, done: bool)
+    ensures same { machine.new ≡ record machine.old { mode = machine.new.mode } }
+    ensures mode { machine.new.mode ≡ settled_mode done }
 {
-    if !same {
-        machine.mode = Mode::Failing;
-        return;
-    }
-    machine.mode = Mode::Going;
-    machine.goal = if is_true_atom(&body) {
-        None
-    } else {
-        Some(Pending::of(body))
-    };
+    machine.mode = if done { Mode::Going } else { Mode::Failing };
 }
 
-/// Goes on with the goal; where none is left, that is an answer.
+/// Goes on with the next goal; where none is left, that is an answer.
 fn go_on<B: Base, R: Wait, G: Gate>(
     base: &mut B,
     machine: &mut Machine<B::Cursor>,
@@ -298,65 +280,116 @@ fn go_on<B: Base, R: Wait, G: Gate>(
     requires budget { host.now.budget ≤ 10 ^ 11 }
     ensures seen { Looks (B.view base.old) (B.view base.new) }
     ensures becomes { B.becomes base.old base.new }
-    ensures kept { AreKept (B.serves base.new) B.group (B.out base.new) machine.new.stack.items }
-    ensures held { OnOk result (IsHeld host.now.budget (B.view base.new).seen machine.new.steps machine.new.front (length machine.new.stack.items) machine.new.tally) }
-    ensures moves { IfOk result (λ o. (j : Journal) → Begins (B.view base.new) j → Does B.rest B.may_visit B.looked_at B.ahead (B.view base.new).causes (move (setting host.now j)) (setting host.now j) machine.old machine.new o) }
+    ensures kept { AreKept (B.serves base.new) B.group (B.out base.new) (calls machine.new) }
+    ensures left { OnOk result (IsLeft host.now.budget (B.view base.new).seen machine.old machine.new) }
+    ensures moves { IfOk result (λ o. (j : Journal) → Begins (B.view base.new) j → Does B.rest B.may_visit B.looked_at B.ahead (B.view base.new).causes (move (setting host.now machine.old j)) (setting host.now machine.old j) machine.old machine.new o) }
 {
-    match mem::replace(&mut machine.goal, None) {
+    match take_goal(&mut machine.terms) {
         None => {
-            let left = !machine.stack.is_empty();
-            machine.events.push(Event::Answer { left })?;
-            machine.mode = Mode::Failing;
+            answer(machine)?;
             let _front = base.front();
             Ok(None)
         }
-        Some(pending) => {
-            let end = perform(base, machine, host, pending, rt, gate)?;
+        Some(goal) => {
+            let control = goal_control(host.alloc, &machine.terms, goal)?;
+            if let Control::Both(left, right) = control {
+                conjoin(machine, left, right)?;
+                let _front = base.front();
+                return Ok(None);
+            }
+            let end = perform(base, machine, host, goal, control, rt, gate)?;
             Ok(end)
         }
     }
 }
 
-/// Does a goal, in one step.
+/// An answer: the shown term's value, open where an alternative is left.
+fn answer<C>(machine: &mut Machine<C>) -> Result<(), Want>
+    requires { AreTerms machine.old.terms }
+    ensures same { OnOk result (machine.new ≡ record machine.old { mode = Mode.Failing; events = machine.new.events }) }
+    ensures events { OnOk result (machine.new.events.items ≡ machine.old.events.items ++ Event.Answer (numbered (substituted (said machine.old.terms).bindings (said machine.old.terms).shown)) (has_calls (calls machine.old)) ∷ []) }
+    ensures terms { machine.new.terms ≡ machine.old.terms }
+{
+    let values = values(&machine.terms)?;
+    let left = any_left(&machine.terms);
+    machine.events.push(Event::Answer { values, left })?;
+    machine.mode = Mode::Failing;
+    Ok(())
+}
+
+/// Takes a conjunction apart: its goals come first.
+fn conjoin<C>(machine: &mut Machine<C>, left: Cell, right: Cell) -> Result<(), Want>
+    requires terms { AreTerms machine.old.terms }
+    requires left { IsGoal machine.old.terms left }
+    requires right { IsGoal machine.old.terms right }
+    ensures terms { OnOk result (AreTerms machine.new.terms) }
+    ensures same { OnOk result (machine.new ≡ record machine.old { terms = machine.new.terms }) }
+    ensures said { OnOk result (said machine.new.terms ≡ record (said machine.old.terms) { goals = built machine.old.terms left ∷ built machine.old.terms right ∷ (said machine.old.terms).goals }) }
+    ensures err { OnErr result (calls machine.new ≡ calls machine.old) }
+{
+    push_goal(&mut machine.terms, right)?;
+    push_goal(&mut machine.terms, left)?;
+    Ok(())
+}
+
+/// Does a goal that is no conjunction, in one step.
 fn perform<B: Base, R: Wait, G: Gate>(
     base: &mut B,
     machine: &mut Machine<B::Cursor>,
     host: &Host,
-    pending: Pending,
+    goal: Cell,
+    control: Control,
     rt: &R,
     gate: &G,
 ) -> Result<Option<RunEnd>, Want>
-    requires idle { machine.old.goal ≡ None }
+    requires goal { IsGoal machine.old.terms goal }
+    requires control { IsControl machine.old.terms (built machine.old.terms goal) control }
+    requires simple { IsSimple control }
+    requires going { machine.old.mode ≡ Mode.Going }
     requires ready { IsReady (B.view base.old) (B.serves base.old) B.group (B.out base.old) B.rest B.may_visit B.looked_at host.now.budget machine.old }
     requires budget { host.now.budget ≤ 10 ^ 11 }
     ensures seen { Looks (B.view base.old) (B.view base.new) }
     ensures becomes { B.becomes base.old base.new }
-    ensures kept { AreKept (B.serves base.new) B.group (B.out base.new) machine.new.stack.items }
-    ensures held { OnOk result (IsHeld host.now.budget (B.view base.new).seen machine.new.steps machine.new.front (length machine.new.stack.items) machine.new.tally) }
-    ensures moves { IfOk result (λ o. (j : Journal) → Begins (B.view base.new) j → Does B.rest B.may_visit B.looked_at B.ahead (B.view base.new).causes (performs_goal (setting host.now j) pending.goal) (setting host.now j) machine.old machine.new o) }
+    ensures kept { AreKept (B.serves base.new) B.group (B.out base.new) (calls machine.new) }
+    ensures left { OnOk result (IsLeft host.now.budget (B.view base.new).seen machine.old machine.new) }
+    ensures moves { IfOk result (λ o. (j : Journal) → Begins (B.view base.new) j → Does B.rest B.may_visit B.looked_at B.ahead (B.view base.new).causes (performs_goal (setting host.now machine.old j) (built machine.old.terms goal)) (setting host.now machine.old j) machine.old machine.new o) }
 {
     if machine.steps == host.budget {
         return Ok(Some(RunEnd::Spent(machine.steps)));
     }
-    let Pending { goal } = pending;
-    let indicator = indicator(host.alloc, &goal)?;
     machine.steps += 1;
-    if is_true(&indicator) {
-        return Ok(None);
+    match control {
+        Control::True => {
+            let _front = base.front();
+            Ok(None)
+        }
+        Control::Both(_, _) => Ok(None),
+        Control::Equal(left, right) => {
+            equate(machine, left, right)?;
+            let _front = base.front();
+            Ok(None)
+        }
+        Control::User(indicator) => {
+            call(base, machine, host, goal, &indicator, rt, gate)?;
+            Ok(None)
+        }
     }
-    call(base, machine, host, goal, &indicator, rt, gate)?;
-    Ok(None)
 }
 
-/// The name and arity of a goal.
-fn indicator(alloc: Global, goal: &Term) -> Result<Indicator, Want>
-    requires { IsTrue (is_some (indicator_of goal.now)) }
-    ensures { IfOk result (λ i. indicator_of goal.now ≡ Some i) }
+/// Makes two terms one, and else fails.
+fn equate<C>(machine: &mut Machine<C>, left: Cell, right: Cell) -> Result<(), Want>
+    requires terms { AreTerms machine.old.terms }
+    requires left { IsBuilt machine.old.terms left }
+    requires right { IsBuilt machine.old.terms right }
+    ensures terms { OnOk result (AreTerms machine.new.terms) }
+    ensures same { OnOk result (machine.new ≡ record machine.old { mode = machine.new.mode; terms = machine.new.terms }) }
+    ensures equated { OnOk result ((done : Bool) × ((machine.new.mode ≡ settled_mode done)
+        × AreEquated (built machine.old.terms left) (built machine.old.terms right) [] (said machine.old.terms) (said machine.new.terms) done)) }
+    ensures err { OnErr result (calls machine.new ≡ calls machine.old) }
 {
-    match term_indicator(alloc, goal)? {
-        Some(indicator) => Ok(indicator),
-        None => unreachable!(),
-    }
+    let done = equate_terms(&mut machine.terms, left, right)?;
+    settle(machine, done);
+    Ok(())
 }
 
 /// Calls a procedure.
@@ -364,20 +397,20 @@ fn call<B: Base, R: Wait, G: Gate>(
     base: &mut B,
     machine: &mut Machine<B::Cursor>,
     host: &Host,
-    goal: Term,
+    goal: Cell,
     indicator: &Indicator,
     rt: &R,
     gate: &G,
 ) -> Result<(), Want>
+    requires goal { IsGoal machine.old.terms goal }
     requires room { machine.old.tally.looks < machine.old.steps }
-    requires idle { machine.old.goal ≡ None }
     requires ready { IsReady (B.view base.old) (B.serves base.old) B.group (B.out base.old) B.rest B.may_visit B.looked_at host.now.budget machine.old }
     requires budget { host.now.budget ≤ 10 ^ 11 }
     ensures seen { Looks (B.view base.old) (B.view base.new) }
     ensures becomes { B.becomes base.old base.new }
-    ensures kept { AreKept (B.serves base.new) B.group (B.out base.new) machine.new.stack.items }
-    ensures held { OnOk result (IsHeld host.now.budget (B.view base.new).seen machine.new.steps machine.new.front (length machine.new.stack.items) machine.new.tally) }
-    ensures goes { OnOk result ((j : Journal) → Begins (B.view base.new) j → GoesOn B.rest B.may_visit B.looked_at B.ahead (B.view base.new).causes (λ s. calling (setting host.now j) s goal indicator.now) j machine.old machine.new) }
+    ensures kept { AreKept (B.serves base.new) B.group (B.out base.new) (calls machine.new) }
+    ensures left { OnOk result (IsLeft host.now.budget (B.view base.new).seen machine.old machine.new) }
+    ensures goes { OnOk result ((j : Journal) → Begins (B.view base.new) j → GoesOn B.rest B.may_visit B.looked_at B.ahead (B.view base.new).causes (λ s. calling (setting host.now machine.old j) s (built machine.old.terms goal) indicator.now) j machine.old machine.new) }
 {
     match base.find(indicator) {
         None => {
@@ -403,9 +436,9 @@ fn miss<B: Base>(
     requires ready { IsReady (B.view base.old) (B.serves base.old) B.group (B.out base.old) B.rest B.may_visit B.looked_at host.now.budget machine.old }
     ensures seen { Looks (B.view base.old) (B.view base.new) }
     ensures becomes { B.becomes base.old base.new }
-    ensures kept { AreKept (B.serves base.new) B.group (B.out base.new) machine.new.stack.items }
-    ensures held { OnOk result (IsHeld host.now.budget (B.view base.new).seen machine.new.steps machine.new.front (length machine.new.stack.items) machine.new.tally) }
-    ensures goes { OnOk result ((goal : Tree) (j : Journal) → Begins (B.view base.new) j → GoesOn B.rest B.may_visit B.looked_at B.ahead (B.view base.new).causes (λ s. calling (setting host.now j) s goal indicator.now) j machine.old machine.new) }
+    ensures kept { AreKept (B.serves base.new) B.group (B.out base.new) (calls machine.new) }
+    ensures left { OnOk result (IsLeft host.now.budget (B.view base.new).seen machine.old machine.new) }
+    ensures goes { OnOk result ((goal : Tree) (j : Journal) → Begins (B.view base.new) j → GoesOn B.rest B.may_visit B.looked_at B.ahead (B.view base.new).causes (λ s. calling (setting host.now machine.old j) s goal indicator.now) j machine.old machine.new) }
 {
     let ball = missing(host.alloc, indicator)?;
     let front = base.front();
@@ -420,34 +453,34 @@ fn look<B: Base>(
     base: &mut B,
     machine: &mut Machine<B::Cursor>,
     host: &Host,
-    goal: Term,
+    goal: Cell,
     procedure: u32,
 ) -> Result<(), Want>
     requires found { (j : Journal) → Begins (B.view base.old) j → procedure < length (procedures (take (B.view base.old).seen j)) }
+    requires goal { IsGoal machine.old.terms goal }
     requires room { machine.old.tally.looks < machine.old.steps }
-    requires idle { machine.old.goal ≡ None }
     requires ready { IsReady (B.view base.old) (B.serves base.old) B.group (B.out base.old) B.rest B.may_visit B.looked_at host.now.budget machine.old }
     requires budget { host.now.budget ≤ 10 ^ 11 }
     ensures seen { Looks (B.view base.old) (B.view base.new) }
     ensures becomes { B.becomes base.old base.new }
-    ensures kept { AreKept (B.serves base.new) B.group (B.out base.new) machine.new.stack.items }
-    ensures held { OnOk result (IsHeld host.now.budget (B.view base.new).seen machine.new.steps machine.new.front (length machine.new.stack.items) machine.new.tally) }
+    ensures kept { AreKept (B.serves base.new) B.group (B.out base.new) (calls machine.new) }
+    ensures left { OnOk result (IsLeft host.now.budget (B.view base.new).seen machine.old machine.new) }
     ensures goes { OnOk result ((i : Indicator) → ((j : Journal) → Begins (B.view base.old) j → number_of (take (B.view base.old).seen j) i ≡ Some procedure) → (j : Journal) → Begins (B.view base.new) j
-        → GoesOn B.rest B.may_visit B.looked_at B.ahead (B.view base.new).causes (λ s. calling (setting host.now j) s goal i) j machine.old machine.new) }
+        → GoesOn B.rest B.may_visit B.looked_at B.ahead (B.view base.new).causes (λ s. calling (setting host.now machine.old j) s (built machine.old.terms goal) i) j machine.old machine.new) }
 {
-    let keys = keys_of(goal.nodes(), &mut machine.names)?;
+    let keys = keys_now(&machine.terms, goal);
     machine.fronts.reserve(1)?;
-    let Opened { choice, how: _ } = open(
+    let Opened { call, how: _ } = open(
         base,
+        &machine.terms,
         goal,
         procedure,
         &keys,
-        &machine.names,
         &mut machine.tally,
     );
     let front = base.front();
     machine.fronts.push_reserved(front);
     machine.front = front;
-    try_next(base, machine, choice, &keys)?;
+    try_next(base, machine, call, &keys)?;
     Ok(())
 }

@@ -2,21 +2,23 @@
 ghost use Rattle.std.specs.Prelude.{◌≡◌, [], ◌++◌, ◌∷◌, OnOk, OnErr};
 
 use journal_base::Tally;
-use prolog_terms::{Term, Want};
+use prolog_terms::{ShownVariables, Term, Want};
 use std::alloc::Global;
 use std::marker::Model;
 
-/// A goal of the command line.
+/// A goal of the command line, and its variables that are shown.
 #[derive(Debug, Drop)]
 pub struct Goal {
     pub term: Term,
+    pub shown: ShownVariables,
 }
 
 /// What happens in a run.
-#[derive(Clone, Copy, Debug, PartialEq, Eq)]
+#[derive(Debug, Drop, PartialEq)]
 pub enum Event {
-    /// An answer; `left` says whether a choice point is left, so that more may follow.
-    Answer { left: bool },
+    /// An answer: the list of the shown variables' values, with its variables numbered from 0 by first occurrence; `left`
+    /// says whether a choice point is left, so that more may follow.
+    Answer { values: Term, left: bool },
 }
 
 /// How a run ends.
@@ -41,8 +43,12 @@ pub struct Events {
 impl Model for Events {
     ghost use Rattle.std.specs.Prelude.{List};
     ghost use Rattle.wam_machine.specs.declared.run.Event.{Event};
+    ghost use Rattle.wam_machine.specs.contracts.run.Event as of_event;
+    ghost use Rattle.std.specs.Coded.{coded_list};
 
     ghost Value = { List Event };
+
+    ghost coded = { coded_list of_event.the_row.coded };
 
     ghost view = { λ e. e.events.items };
 }
@@ -63,7 +69,7 @@ impl Events {
     }
 }
 
-/// The fronts of a run: the lengths of the journal at which it looked, in order.
+/// The fronts of a run: the lengths of the journal at each call of a procedure, in order.
 #[derive(Debug, Drop)]
 pub struct Fronts {
     fronts: Vec<u64>,
@@ -100,6 +106,8 @@ pub struct Run {
     pub engine: u32,
     /// The line of the text in which its read-term begins; 0 for a goal of the command line.
     pub line: u64,
+    /// The goal's variables that its answers show.
+    pub shown: ShownVariables,
     /// What happened, in order.
     pub transcript: Events,
     /// The journal's length at each call of a procedure, in order.

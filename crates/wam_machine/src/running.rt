@@ -1,19 +1,21 @@
 // A run, from its goal to its end.
-ghost use Rattle.std.specs.Prelude.{◌≡◌, ◌≤◌, ◌^◌, [], IfOk, IsTrue, is_some};
-ghost use Rattle.prolog_terms.specs.Indicators.{indicator_of};
+ghost use Rattle.std.specs.Prelude.{◌≡◌, ◌≤◌, ◌^◌, [], IfOk, IsTrue};
+ghost use Rattle.prolog_terms.specs.Clauses.{is_body};
 ghost use Rattle.journal_base.specs.Journal.{Journal};
 ghost use Rattle.journal_base.specs.View.{IsSound, Looks, none_out};
 ghost use Rattle.wam_machine.specs.Cursors.{Begins};
 ghost use Rattle.wam_machine.specs.Machine.{made_all};
-ghost use Rattle.wam_machine.specs.Runs.{IsRunOf, IsTranscribed};
-ghost use Rattle.wam_machine.specs.View.{setting, AreKept, IsReady, IsBeginning, run_of};
+ghost use Rattle.wam_machine.specs.Runs.{IsRunOf, IsTranscribed, AreShown};
+ghost use Rattle.wam_machine.specs.View.{setting, calls, AreKept, IsReady, IsBeginning, run_of};
+ghost use Rattle.wam_machine.specs.Terms.{said};
 
-use crate::choice::Choice;
 use crate::machine::{advance, give_up};
 use crate::run::{Events, Fronts, Goal, Run, RunEnd};
-use crate::state::{Host, Machine, Mode, Pending};
+use crate::shown::begin;
+use crate::state::{Host, Machine, Mode};
+use crate::terms::{Choice, Terms};
 use journal_base::{Base, Gate, Tally};
-use prolog_terms::{Names, Want};
+use prolog_terms::{ShownVariables, Want};
 use std::alloc::Global;
 use std::sync::Wait;
 
@@ -26,10 +28,11 @@ pub(crate) fn run<B: Base, R: Wait, G: Gate>(
     budget: u64,
     gate: &G,
 ) -> Result<Run, Want>
-    requires goal { IsTrue (is_some (indicator_of goal.now.term)) }
+    requires goal { IsTrue (is_body goal.now.term) }
+    requires shown { AreShown goal.now }
     requires budget { budget ≤ 10 ^ 11 }
     requires out { B.out base.old ≡ none_out }
-    ensures run { IfOk result (IsRunOf (B.view base.new) (B.view base.old).seen budget goal.now.term) }
+    ensures run { IfOk result (IsRunOf (B.view base.new) (B.view base.old).seen budget goal.now) }
     ensures seen { Looks (B.view base.old) (B.view base.new) }
     ensures becomes { B.becomes base.old base.new }
     ensures out { B.out base.new ≡ none_out }
@@ -40,34 +43,34 @@ pub(crate) fn run<B: Base, R: Wait, G: Gate>(
         start: base.front(),
         budget,
     };
-    let mut machine = begin(alloc, goal, host.start)?;
+    let shown = goal.shown.clone()?;
+    let mut machine = first(alloc, goal, host.start)?;
     let ended = moves(base, &mut machine, &host, goal, rt, gate);
-    clear(base, &mut machine.stack);
+    clear(base, &mut machine.terms);
     match ended {
-        Ok(end) => Ok(into_run(machine, host.engine, end)),
+        Ok(end) => Ok(into_run(machine, host.engine, shown, end)),
         Err(want) => {
-            let_go(machine);
+            stop(machine);
             Err(want)
         }
     }
 }
 
 /// The machine before its first move.
-fn begin<C>(alloc: Global, goal: &Goal, front: u64) -> Result<Machine<C>, Want>
-    requires { IsTrue (is_some (indicator_of goal.now.term)) }
-    ensures { IfOk result (IsBeginning goal.now.term front) }
+fn first<C>(alloc: Global, goal: &Goal, front: u64) -> Result<Machine<C>, Want>
+    requires goal { IsTrue (is_body goal.now.term) }
+    requires shown { AreShown goal.now }
+    ensures { IfOk result (IsBeginning goal.now front) }
 {
-    let first = Pending::of(goal.term.clone()?);
+    let terms = begin(alloc, goal)?;
     Ok(Machine {
         mode: Mode::Going,
-        goal: Some(first),
-        stack: Vec::new(alloc),
+        terms,
         steps: 0,
         events: Vec::new(alloc),
         front,
         fronts: Vec::new(alloc),
         tally: Tally::new(),
-        names: Names::new(alloc),
     })
 }
 
@@ -81,16 +84,16 @@ fn moves<B: Base, R: Wait, G: Gate>(
     gate: &G,
 ) -> Result<RunEnd, Want>
     requires sound { IsSound (B.view base.old) }
-    requires beginning { IsBeginning goal.now.term host.now.start machine.old }
+    requires beginning { IsBeginning goal.now host.now.start machine.old }
     requires start { host.now.start ≡ (B.view base.old).seen }
     requires budget { host.now.budget ≤ 10 ^ 11 }
     requires out { B.out base.old ≡ none_out }
     ensures seen { Looks (B.view base.old) (B.view base.new) }
     ensures becomes { B.becomes base.old base.new }
-    ensures kept { AreKept (B.serves base.new) B.group (B.out base.new) machine.new.stack.items }
+    ensures kept { AreKept (B.serves base.new) B.group (B.out base.new) (calls machine.new) }
     ensures within { IfOk result (λ _. machine.new.steps ≤ host.now.budget) }
-    ensures ended { IfOk result (λ end. (j : Journal) → Begins (B.view base.new) j → IsTrue (made_all (setting host.now j))
-        → IsTranscribed (setting host.now j) (B.view base.new).causes goal.now.term (run_of host.now.engine machine.new end)) }
+    ensures ended { IfOk result (λ end. (j : Journal) → Begins (B.view base.new) j → IsTrue (made_all (setting host.now machine.old j))
+        → IsTranscribed (setting host.now machine.old j) (B.view base.new).causes goal.now.term (run_of host.now.engine goal.now.shown machine.new end)) }
 {
     let _goal = goal;
     for _ in rt.forever() {
@@ -101,40 +104,45 @@ fn moves<B: Base, R: Wait, G: Gate>(
     unreachable!()
 }
 
-/// Gives up all calls.
-fn clear<B: Base>(base: &mut B, calls: &mut Vec<Choice<B::Cursor>>)
+/// Gives up all calls with clauses left.
+fn clear<B: Base>(base: &mut B, terms: &mut Terms<B::Cursor>)
     requires sound { IsSound (B.view base.old) }
-    requires kept { AreKept (B.serves base.old) B.group (B.out base.old) calls.old.items }
+    requires kept { AreKept (B.serves base.old) B.group (B.out base.old) (said terms.old).stack }
     ensures seen { Looks (B.view base.old) (B.view base.new) }
     ensures becomes { B.becomes base.old base.new }
-    ensures none { calls.new.items ≡ [] }
+    ensures none { terms.new.choices.items ≡ [] }
     ensures out { B.out base.new ≡ none_out }
 {
-    while let Some(choice) = calls.pop() {
-        give_up(base, choice);
+    while let Some(choice) = terms.choices.pop() {
+        let Choice {
+            call,
+            next: _,
+            frames: _,
+            mark: _,
+        } = choice;
+        give_up(base, call);
     }
 }
 
 /// What the machine did, as a run.
-fn into_run<C>(machine: Machine<C>, engine: u32, end: RunEnd) -> Run
-    requires { machine.stack.items ≡ [] }
-    ensures { result ≡ run_of engine machine end }
+fn into_run<C>(machine: Machine<C>, engine: u32, shown: ShownVariables, end: RunEnd) -> Run
+    requires { machine.terms.choices.items ≡ [] }
+    ensures { result ≡ run_of engine shown machine end }
 {
     let Machine {
         mode: _,
-        goal: _,
-        stack,
+        terms,
         steps,
         events,
         front: _,
         fronts,
         tally,
-        names: _,
     } = machine;
-    stack.destroy_empty();
+    let_go(terms);
     Run {
         engine,
         line: 0,
+        shown,
         transcript: Events::of(events),
         fronts: Fronts::of(fronts),
         tally,
@@ -143,20 +151,33 @@ fn into_run<C>(machine: Machine<C>, engine: u32, end: RunEnd) -> Run
     }
 }
 
+/// Lets terms go that have no calls left.
+fn let_go<C>(terms: Terms<C>)
+    requires { terms.choices.items ≡ [] }
+{
+    let Terms {
+        store: _,
+        names: _,
+        shown: _,
+        frames: _,
+        next: _,
+        choices,
+    } = terms;
+    choices.destroy_empty();
+}
+
 /// Lets a machine go that has no calls left.
-fn let_go<C>(machine: Machine<C>)
-    requires { machine.stack.items ≡ [] }
+fn stop<C>(machine: Machine<C>)
+    requires { machine.terms.choices.items ≡ [] }
 {
     let Machine {
         mode: _,
-        goal: _,
-        stack,
+        terms,
         steps: _,
         events: _,
         front: _,
         fronts: _,
         tally: _,
-        names: _,
     } = machine;
-    stack.destroy_empty();
+    let_go(terms);
 }

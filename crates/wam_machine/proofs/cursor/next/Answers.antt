@@ -1,6 +1,7 @@
 use Rattle.std.proofs.Common.{◌≡◌, ◌+◌, ◌≤◌, take, subst, arith}
 use Rattle.journal_base.specs.Calls.{Goal, goal_keys}
 use Rattle.journal_base.specs.View.{View, Gives}
+use Rattle.wam_machine.specs.Terms.{call_now}
 use Rattle.wam_machine.specs.Cursors.{names_left, visits_left}
 use Rattle.wam_machine.proofs.Begins.{seen_in}
 use Rattle.wam_machine.proofs.Parts.{names_seen, visits_seen}
@@ -11,8 +12,8 @@ returns-clause-gives g c j b =
     let new : View = g.B.Base.view c.next.new.self in
     let rest = g.B.Base.rest in
     let at = g.B.Base.looked_at in
-    let old_choice = c.args.choice.now in
-    let ks = goal_keys c.args.names.now c.args.keys.now.at in
+    let old_choice = call_now c.args.terms.now c.args.call.now in
+    let ks = goal_keys c.args.terms.now.names c.args.keys.now.at in
     let call : Goal = record { procedure = old_choice.procedure; keys = ks } in
     let low : at old_choice.cursor ≤ new.seen = omega (arith, g.met.B.Base.looked_seen _ _ _ c.requires.serves, c.next.ensures.seen.grows.front) in
     let low_new : at c.next.new.cursor ≤ new.seen = omega (arith, low, c.next.ensures.at) in
@@ -27,8 +28,8 @@ returns-clause-visits g c j b =
     let new : View = g.B.Base.view c.next.new.self in
     let may = g.B.Base.may_visit in
     let at = g.B.Base.looked_at in
-    let old_choice = c.args.choice.now in
-    let ks = goal_keys c.args.names.now c.args.keys.now.at in
+    let old_choice = call_now c.args.terms.now c.args.call.now in
+    let ks = goal_keys c.args.terms.now.names c.args.keys.now.at in
     let call : Goal = record { procedure = old_choice.procedure; keys = ks } in
     let low : at old_choice.cursor ≤ new.seen = omega (arith, g.met.B.Base.looked_seen _ _ _ c.requires.serves, c.next.ensures.seen.grows.front) in
     let low_new : at c.next.new.cursor ≤ new.seen = omega (arith, low, c.next.ensures.at) in

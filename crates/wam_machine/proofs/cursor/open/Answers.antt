@@ -4,8 +4,8 @@ use Rattle.journal_base.specs.Calls.{Goal, goal_keys}
 use Rattle.journal_base.specs.Candidates.{candidates}
 use Rattle.journal_base.specs.Looks.{IsFair, allowance, most_raised}
 use Rattle.journal_base.specs.View.{View}
-use Rattle.wam_machine.specs.Cursors.{goal_of, part, names_left, visits_left}
-use Rattle.wam_machine.specs.declared.choice.Choice.{Choice}
+use Rattle.wam_machine.specs.Cursors.{asked, goal_of, part, names_left, visits_left}
+use Rattle.wam_machine.specs.Terms.{Left, call_now}
 use Rattle.wam_machine.proofs.Begins.{seen_in}
 use Rattle.wam_machine.proofs.Chains.{fair_before}
 use Rattle.wam_machine.proofs.Parts.{names_seen, visits_seen, clauses_offered, named_offered}
@@ -18,14 +18,14 @@ returns-clause-opened g c before le j b =
     let may = g.B.Base.may_visit in
     let at = g.B.Base.looked_at in
     let how = c.look-cursor.result.how in
-    let choice : Choice _ = record { goal = c.args.goal; procedure = c.args.procedure; cursor = c.look-cursor.result.cursor } in
-    let ks = goal_keys c.args.names.now c.args.keys.now.at in
+    let choice : Left _ = call_now c.args.terms.now (record { goal = c.args.goal; procedure = c.args.procedure; cursor = c.look-cursor.result.cursor }) in
+    let ks = goal_keys c.args.terms.now.names c.args.keys.now.at in
     let call : Goal = record { procedure = c.args.procedure; keys = ks } in
     let here : at choice.cursor ≡ new.seen = c.look-cursor.ensures.at in
     let low : at choice.cursor ≤ new.seen = omega (arith, here) in
     let whole : take new.seen j ≡ part at j choice = ap (λ n. take n j) (sym here) in
     let same : ◌≡◌ {A = Goal} call (goal_of choice) = ap {B = Goal} (λ k. record { procedure = c.args.procedure; keys = k }) c.requires.of in
-    let offered : names_left rest at j choice ≡ candidates (part at j choice) c.args.procedure (keys c.args.goal) =
+    let offered : names_left rest at j choice ≡ candidates (part at j choice) c.args.procedure (keys (asked choice)) =
     sym (names_seen rest at g.met.B.Base.rest_local j new.seen choice ks low c.requires.of)
     ∙ seen_in new (λ J. rest choice.cursor call J ≡ candidates J c.args.procedure ks) j c.look-cursor.ensures.clauses b
     ∙ ap (λ J. candidates J c.args.procedure ks) whole ∙ ap (candidates (part at j choice) c.args.procedure) c.requires.of in

@@ -1,39 +1,42 @@
-use Rattle.std.proofs.Common.{◌++◌, ◌∷◌, []}
+use Rattle.std.proofs.Common.{◌++◌, ◌∷◌, [], refl, sym, subst, ap, ◌∙◌}
 use Rattle.std.specs.Prelude.{All}
+use Rattle.wam_machine.specs.Terms.{IsEntered, said, built, call_now}
 use Rattle.wam_machine.specs.Cursors.{Begins, AreNamed}
-use Rattle.wam_machine.proofs.Begins.{begins_before, looks_trans}
+use Rattle.wam_machine.specs.View.{calls}
+use Rattle.wam_machine.specs.declared.state.Machine.{Machine}
+use Rattle.wam_machine.proofs.Begins.{begins_before}
 use Rattle.wam_machine.proofs.Kept.{all_last, kept_on, last_out, kept_without}
-use Rattle.wam_machine.proofs.Same.{test-same}
-use Rattle.wam_machine.proofs.Tried.{settled}
+use Rattle.wam_machine.proofs.Tried.{attempted}
 use Rattle.wam_machine.proofs.machine.attempt.Goals as goal
 
 pub give_up-requires-clause-out : goal.give_up-requires-clause-out
 give_up-requires-clause-out g c =
-    last_out g.B.Base.group (g.B.Base.serves c.fetch.new.base) _ _ c.args.choice
+    last_out g.B.Base.group (g.B.Base.serves c.fetch.new.base) _ _ (call_now c.args.machine.now.terms c.args.call)
     (kept_on g.B.Base.group (g.B.Base.serves c.args.base.now) _ _ (g.B.Base.serves c.fetch.new.base) _ c.requires.kept c.in-Err.ensures.others c.in-Err.ensures.out)
 
 pub returns-in-Err-clause-kept : goal.returns-in-Err-clause-kept
 returns-in-Err-clause-kept g c =
-    kept_without g.B.Base.group (g.B.Base.serves c.fetch.new.base) _ _ (g.B.Base.serves c.give_up.new.base) _ c.args.choice
+    kept_without g.B.Base.group (g.B.Base.serves c.fetch.new.base) _ _ (g.B.Base.serves c.give_up.new.base) _ (call_now c.args.machine.now.terms c.args.call)
     (kept_on g.B.Base.group (g.B.Base.serves c.args.base.now) _ _ (g.B.Base.serves c.fetch.new.base) _ c.requires.kept c.in-Err.ensures.others c.in-Err.ensures.out)
     c.give_up.ensures.others c.give_up.ensures.out
 
-pub returns-in_err-keep-in-Ok-clause-seen : goal.returns-in_err-keep-in-Ok-clause-seen
-returns-in_err-keep-in-Ok-clause-seen g c = looks_trans _ _ _ c.fetch.ensures.seen c.keep.ensures.seen
-
-pub returns-in_ok-keep-in-Ok-clause-seen : goal.returns-in_ok-keep-in-Ok-clause-seen
-returns-in_ok-keep-in-Ok-clause-seen g c = looks_trans _ _ _ c.fetch.ensures.seen c.keep.ensures.seen
-
-pub returns-in_ok-keep-in-Ok-clause-attempted : goal.returns-in_ok-keep-in-Ok-clause-attempted
-returns-in_ok-keep-in-Ok-clause-attempted g c j b =
+pub returns-in_ok-entered-in-Ok-clause-attempted : goal.returns-in_ok-entered-in-Ok-clause-attempted
+returns-in_ok-entered-in-Ok-clause-attempted g c j b =
+    let m = c.args.machine.now in
+    let left = call_now m.terms c.args.call in
     let between : Begins (g.B.Base.view c.fetch.new.base) j = begins_before _ _ j c.keep.ensures.seen.grows b in
-    let named : All (AreNamed g.B.Base.rest g.B.Base.looked_at j) (c.args.machine.now.stack.items ++ c.args.choice ∷ []) =
-    c.requires.named j (begins_before _ _ j c.fetch.ensures.seen.grows between) in
+    let named : All (AreNamed g.B.Base.rest g.B.Base.looked_at j) (calls m ++ left ∷ []) = c.requires.named j (begins_before _ _ j c.fetch.ensures.seen.grows between) in
     record {
       clause = c.in-Ok.clause;
       clause_is = c.in-Ok.ensures.clause j between;
-      tried = settled g.B.Base.rest g.B.Base.looked_at j c.args.choice c.in-Ok.clause c.args.machine.now c.keep.new.machine c.settle.new.machine c.eq-same.result
-          (all_last (AreNamed g.B.Base.rest g.B.Base.looked_at j) c.args.machine.now.stack.items c.args.choice named) c.requires.idle
-          c.in_ok-keep-in-Ok.ensures.same (c.in_ok-keep-in-Ok.ensures.stack j b) c.settle.ensures.same c.settle.ensures.mode c.settle.ensures.goal
-          (test-same c.eq-same.result c.in-Ok.clause.head c.args.choice.goal c.eq-same.ensures.same);
+      tried = attempted g.B.Base.rest g.B.Base.looked_at j left c.in-Ok.clause m c.keep.new.machine c.settle.new.machine c.in_ok-entered-in-Ok.entered
+          (all_last (AreNamed g.B.Base.rest g.B.Base.looked_at j) (calls m) left named) refl refl
+          c.keep.ensures.said (c.in_ok-keep-in-Ok.ensures.stack j b)
+          (subst (λ t. IsEntered t c.in-Ok.clause (said c.keep.new.machine.terms) (said c.settle.new.machine.terms) c.in_ok-entered-in-Ok.entered) c.keep.ensures.built
+          (subst (λ t. IsEntered (built c.keep.new.machine.terms c.args.call.goal) c.in-Ok.clause (said c.keep.new.machine.terms) t c.in_ok-entered-in-Ok.entered)
+          (sym (ap (λ (x : Machine g.row.B-Cursor.Denot). said x.terms) c.settle.ensures.same)) c.in_ok-entered-in-Ok.ensures.entered))
+          c.settle.ensures.mode
+          (ap (λ (x : Machine g.row.B-Cursor.Denot). x.steps) c.settle.ensures.same ∙ ap (λ (x : Machine g.row.B-Cursor.Denot). x.steps) c.in_ok-keep-in-Ok.ensures.same)
+          (ap (λ (x : Machine g.row.B-Cursor.Denot). x.events.items) c.settle.ensures.same ∙ ap (λ (x : Machine g.row.B-Cursor.Denot). x.events.items) c.in_ok-keep-in-Ok.ensures.same)
+          (ap (λ (x : Machine g.row.B-Cursor.Denot). x.front) c.settle.ensures.same ∙ ap (λ (x : Machine g.row.B-Cursor.Denot). x.front) c.in_ok-keep-in-Ok.ensures.same);
     }

@@ -1,5 +1,6 @@
 use Rattle.std.proofs.Common.{◌≡◌, sym, take, None, Some}
 use Rattle.journal_base.specs.Journal.{procedure_named}
+use Rattle.wam_machine.specs.Terms.{built}
 use Rattle.wam_machine.proofs.Begins.{looks_trans, seen_in}
 use Rattle.wam_machine.proofs.Named.{procedure_within}
 use Rattle.wam_machine.proofs.Ready.{ready_on, absent_number, found_number}
@@ -35,7 +36,7 @@ pub returns-in_ok-miss-in-None-clause-seen : goal.returns-in_ok-miss-in-None-cla
 returns-in_ok-miss-in-None-clause-seen g c = looks_trans _ _ _ c.in-None.ensures.seen c.in_ok-miss-in-None.ensures.seen
 
 pub returns-in_ok-miss-in-None-clause-goes : goal.returns-in_ok-miss-in-None-clause-goes
-returns-in_ok-miss-in-None-clause-goes g c = λ j b. c.in_ok-miss-in-None.ensures.goes c.args.goal j b
+returns-in_ok-miss-in-None-clause-goes g c = λ j b. c.in_ok-miss-in-None.ensures.goes (built c.args.machine.now.terms c.args.goal) j b
 
 pub returns-in_ok-look-in-Some-clause-seen : goal.returns-in_ok-look-in-Some-clause-seen
 returns-in_ok-look-in-Some-clause-seen g c = looks_trans _ _ _ c.in-Some.ensures.seen c.in_ok-look-in-Some.ensures.seen

@@ -1,0 +1,138 @@
+-- Terms that are made one, and clauses that are entered.
+use Rattle.std.proofs.Common.{◌≡◌, ℕ, suc, ◌+◌, ◌≤◌, Bool, true, false, List, [], ◌∷◌, ◌++◌, Option, Some, None, refl, sym, ap, ap₂, ◌∙◌, arith, subst, if◌then◌else◌, ◌&&◌, ◌==◌, nat_lt, map, length}
+use Rattle.std.proofs.Math.Path.{fun_ext}
+use Rattle.std.specs.Prelude.{IsTrue, option_and_then, max}
+use Rattle.std.proofs.lemmas.Bool.{ltb-true, eqb-true}
+use Rattle.prolog_terms.specs.Tree.{Tree, Trees, variable, integer, atom, compound, none, more}
+use Rattle.prolog_terms.specs.Substitutions.{substituted, renamed, beyond, beyond_all}
+use Rattle.prolog_terms.specs.Variables.{met_after, all_met_after, AreNumbered}
+use Rattle.prolog_terms.specs.Clauses.{is_body, is_connective}
+use Rattle.term_store.specs.declared.cell.Cell.{Cell}
+use Rattle.term_store.specs.declared.cell.Trailed.{Trailed}
+use Rattle.term_store.specs.Shape.{Shape}
+use Rattle.term_store.specs.Terms.{raw, HasTerm, IsUnified, HaveNoUnifier}
+use Rattle.term_store.specs.Later.{IsLater, back, CanGoBack}
+use Rattle.term_unifier.specs.Unifier.{unifier, Unifies, IsMostGeneral}
+use Rattle.term_unifier.proofs.Known.{known-some, known-none}
+use Rattle.wam_machine.specs.declared.terms.Terms.{Terms}
+use Rattle.wam_machine.specs.Terms.{Said, said, built, IsBuilt, IsGoal, AreTerms, IsSolved, AreEquated}
+use Rattle.wam_machine.specs.Control.{is_true_atom, body_goals}
+use Rattle.wam_machine.proofs.Grown.{Grows, back-later}
+use Rattle.wam_machine.proofs.Told.{said-later}
+
+-- ---- by a unifier
+
+module _ {C : Type 0} (goals : List Tree) (a b : Tree) (old new : Said C) where
+  pub equated-some : (m : ℕ → Tree) → IsMostGeneral m (substituted old.bindings a) (substituted old.bindings b)
+      → new ≡ record old { goals = goals ++ old.goals; bindings = λ v. substituted m (old.bindings v) } → AreEquated a b goals old new true
+  equated-some m h e = subst (IsSolved goals old new true) (sym (known-some _ _ m h)) (refl, e)
+
+  pub equated-none : ((r : ℕ → Tree) → ¬ Unifies r (substituted old.bindings a) (substituted old.bindings b)) → new ≡ old → AreEquated a b goals old new false
+  equated-none h e = subst (IsSolved goals old new false) (sym (known-none _ _ h)) (refl, e)
+
+-- goals that come before those that are still to be done
+solved-goals : {C : Type 0} (goals : List Tree) (old new next : Said C) → next ≡ record new { goals = goals ++ new.goals }
+    → (o : Option (ℕ → Tree)) → IsSolved [] old new true o → IsSolved goals old next true o
+solved-goals goals old new next e None h = absurd (cc (h.0))
+solved-goals {C} goals old new next e (Some m) h = (refl, e ∙ ap (λ (x : Said C). record x { goals = goals ++ x.goals }) h.1)
+
+pub equated-goals : {C : Type 0} (goals : List Tree) (a b : Tree) (old new next : Said C) → next ≡ record new { goals = goals ++ new.goals }
+    → AreEquated a b [] old new true → AreEquated a b goals old next true
+equated-goals goals a b old new next e h = solved-goals goals old new next e (unifier (substituted old.bindings a) (substituted old.bindings b)) h
+
+-- ---- by a store
+
+pub equated-unified : {C : Type 0} (t : Terms C) (u : Shape) (a b : Cell) → AreTerms t → Grows t.names t.names t.store u
+    → u.variables ≡ t.store.variables → IsUnified t.names t.store u a b
+    → AreEquated (built t a) (built t b) [] (said t) (said (record t { store = u })) true
+unfolding said built
+equated-unified {C} t u a b h g e (s, most, same) =
+    equated-some [] _ _ (said t) _ s most
+    (said-later t t.names u h g ∙ ap₂ (λ (m : ℕ → Tree) (n : ℕ). record (said t) { bindings = m; fresh = n }) (fun_ext same) e)
+
+pub equated-refused : {C : Type 0} (goals : List Tree) (t : Terms C) (new : Said C) (a b : Cell) → HaveNoUnifier t.names t.store a b → new ≡ said t
+    → AreEquated (built t a) (built t b) goals (said t) new false
+unfolding said built
+equated-refused goals t new a b h e = equated-none goals _ _ (said t) new h e
+
+-- back at a mark that was taken before the store grew
+pub undone : (m : Trailed) (s u : Shape) → CanGoBack m s → back m s ≡ s → IsLater s u → u.variables ≡ s.variables → back m u ≡ s
+undone m s u c e h v = back-later m s u c h ∙ ap₂ (λ (w : Shape) (n : ℕ). record w { variables = n }) e v
+
+-- ---- a clause's variables
+
+met-variable : (n k j : ℕ) (b c : Bool) → nat_lt n k ≡ b → (n == k) ≡ c → (if b then Some k else (if c then Some (k + 1) else None)) ≡ Some j
+    → (k ≤ j) × (suc n ≤ j)
+met-variable n k j true c p q e = let low = ltb-true n k p in let f : k ≡ j = cc in (omega arith, omega arith)
+met-variable n k j false true p q e = let same = eqb-true n k q in let f : k + 1 ≡ j = cc in (omega arith, omega arith)
+met-variable n k j false false p q e = absurd (cc e)
+
+met-both : (x y k j : ℕ) (o : Option ℕ) (f : ℕ → Option ℕ) → ((i : ℕ) → o ≡ Some i → (k ≤ i) × (x ≤ i)) → ((i : ℕ) → f i ≡ Some j → (i ≤ j) × (y ≤ j))
+    → option_and_then f o ≡ Some j → (k ≤ j) × (max x y ≤ j)
+met-both x y k j None f a b e = absurd (cc e)
+met-both x y k j (Some i) f a b e =
+    let h = a i refl in let l = b i e in
+    let u = h.0 in let v = h.1 in let w = l.0 in let z = l.1 in (omega (arith, u, w), omega (arith, v, w, z))
+
+mutual
+  pub met-beyond : (t : Tree) (k j : ℕ) → met_after t k ≡ Some j → (k ≤ j) × (beyond t ≤ j)
+  met-beyond (variable n) k j e = met-variable n k j (nat_lt n k) (n == k) refl refl e
+  met-beyond (integer z) k j e = let f : k ≡ j = cc in (omega arith, omega arith)
+  met-beyond (atom a) k j e = let f : k ≡ j = cc in (omega arith, omega arith)
+  met-beyond (compound f ts) k j e = all-met-beyond ts k j e
+
+  all-met-beyond : (ts : Trees) (k j : ℕ) → all_met_after ts k ≡ Some j → (k ≤ j) × (beyond_all ts ≤ j)
+  all-met-beyond none k j e = let f : k ≡ j = cc in (omega arith, omega arith)
+  all-met-beyond (more t ts) k j e =
+      met-both (beyond t) (beyond_all ts) k j (met_after t k) (all_met_after ts) (λ i p. met-beyond t k i p) (λ i q. all-met-beyond ts i j q) e
+
+-- the variables of head and body are numbered below the clause's count
+pub numbered-below : (head body : Tree) (vars : ℕ) → AreNumbered head body vars → (beyond head ≤ vars) × (beyond body ≤ vars)
+numbered-below head body vars e = go (met_after head 0) refl e
+  where
+    go : (o : Option ℕ) → met_after head 0 ≡ o → option_and_then (met_after body) o ≡ Some vars → (beyond head ≤ vars) × (beyond body ≤ vars)
+    go None p q = absurd (cc q)
+    go (Some k) p q =
+        let a = met-beyond head 0 k p in let b = met-beyond body k vars q in
+        let v = a.1 in let w = b.0 in (omega (arith, v, w), b.1)
+
+-- ---- a clause's body
+
+connective-body : (b p q r s : Bool) → (IsTrue p → IsTrue r) → (IsTrue q → IsTrue s) → IsTrue (if b then p && q else true) → IsTrue (if b then r && s else true)
+connective-body false p q r s f g h = refl
+connective-body true false q r s f g h = absurd (cc h)
+connective-body true true q r s f g h = let a = f refl in let b = g h in rw (a, b) refl
+
+-- what may be done as a goal still may, whatever its variables stand for
+pub body-substituted : (s : ℕ → Tree) (t : Tree) → IsTrue (is_body t) → IsTrue (is_body (substituted s t))
+body-substituted s (variable n) h = absurd (cc h)
+body-substituted s (integer z) h = absurd (cc h)
+body-substituted s (atom a) h = refl
+body-substituted s (compound f none) h = refl
+body-substituted s (compound f (more a none)) h = refl
+body-substituted s (compound f (more a (more b none))) h =
+    connective-body (is_connective f) (is_body a) (is_body b) (is_body (substituted s a)) (is_body (substituted s b)) (body-substituted s a) (body-substituted s b) h
+body-substituted s (compound f (more a (more b (more c ts)))) h = refl
+
+-- ---- the body's goals
+
+pub body-IsGoal : {C : Type 0} (t : Terms C) (cell : Cell) (from : ℕ) (body : Tree) → HasTerm (length t.names) t.store cell
+    → raw t.names t.store cell ≡ renamed from body → IsTrue (is_body body) → IsGoal t cell
+unfolding built IsBuilt
+body-IsGoal t cell from body h e b = record {
+  built_is = h;
+  body = subst (λ (x : Tree). IsTrue (is_body x)) (sym e) (body-substituted (λ v. variable (from + v)) body b);
+}
+
+pub built-raw : {C : Type 0} (t : Terms C) (cell : Cell) → built t cell ≡ raw t.names t.store cell
+unfolding built
+built-raw t cell = refl
+
+body_goals-one : (body : Tree) → is_true_atom body ≡ false → body_goals body ≡ body ∷ []
+body_goals-one body e = ap (λ (b : Bool). if b then [] else body ∷ []) e
+
+pub said-pushed : {C : Type 0} (old new next : Said C) (goal : Tree) (from : ℕ) (body : Tree) → is_true_atom body ≡ false → new ≡ old → goal ≡ renamed from body
+    → next ≡ record new { goals = goal ∷ new.goals } → next ≡ record old { goals = map (renamed from) (body_goals body) ++ old.goals }
+said-pushed {C} old new next goal from body f p q e =
+    e ∙ ap₂ (λ (x : Said C) (b : Tree). record x { goals = b ∷ x.goals }) p q
+    ∙ ap (λ (gs : List Tree). record old { goals = map (renamed from) gs ++ old.goals }) (sym (body_goals-one body f))

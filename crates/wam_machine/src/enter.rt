@@ -1,0 +1,77 @@
+// Terms that are made one, and clauses that are entered.
+ghost use Rattle.std.specs.Prelude.{◌≡◌, ◌+◌, ◌≤◌, ◌++◌, IfOk, OnOk, OnErr, IsTrue, [], map};
+ghost use Rattle.prolog_terms.specs.Clauses.{IsClause, is_body};
+ghost use Rattle.prolog_terms.specs.Substitutions.{renamed, beyond};
+ghost use Rattle.wam_machine.specs.Control.{is_true_atom, body_goals};
+ghost use Rattle.wam_machine.specs.Terms.{AreTerms, IsGoal, IsBuilt, said, built, AreEquated, IsEntered};
+
+use crate::terms::{Terms, push_goal};
+use prolog_terms::{Clause, Node, Term, Want};
+use term_store::Cell;
+
+/// Makes two terms one, by the most general unifier of what they stand for. Where there is none, no variable is bound.
+pub(crate) fn equate<C>(terms: &mut Terms<C>, left: Cell, right: Cell) -> Result<bool, Want>
+    requires terms { AreTerms terms.old }
+    requires left { IsBuilt terms.old left }
+    requires right { IsBuilt terms.old right }
+    ensures terms { OnOk result (AreTerms terms.new) }
+    ensures names { terms.new.names ≡ terms.old.names }
+    ensures equated { IfOk result (AreEquated (built terms.old left) (built terms.old right) [] (said terms.old) (said terms.new)) }
+    ensures err { OnErr result ((said terms.new).stack ≡ (said terms.old).stack) }
+{
+    let mark = terms.store.mark();
+    if terms.store.unify(left, right)? {
+        return Ok(true);
+    }
+    terms.store.undo_to(mark);
+    Ok(false)
+}
+
+/// Enters a clause by a goal: its variables are new ones, its head and the goal are made one, and its body's goals come
+/// before those that are still to be done. Where head and goal have no unifier, no variable is bound.
+pub(crate) fn enter<C>(terms: &mut Terms<C>, goal: Cell, clause: &Clause) -> Result<bool, Want>
+    requires terms { AreTerms terms.old }
+    requires goal { IsGoal terms.old goal }
+    requires clause { IsClause clause.now }
+    ensures terms { OnOk result (AreTerms terms.new) }
+    ensures entered { IfOk result (IsEntered (built terms.old goal) clause.now (said terms.old) (said terms.new)) }
+    ensures err { OnErr result ((said terms.new).stack ≡ (said terms.old).stack) }
+{
+    terms.store.known();
+    let from = terms.store.fresh(clause.vars)?;
+    let mark = terms.store.mark();
+    let head = terms.store.put(&mut terms.names, &clause.head, from)?;
+    if !terms.store.unify(head, goal)? {
+        terms.store.undo_to(mark);
+        return Ok(false);
+    }
+    push_body(terms, &clause.body, from)?;
+    Ok(true)
+}
+
+/// Puts a clause's body before the goals that are still to be done; a body that is `true` alone has no goal.
+fn push_body<C>(terms: &mut Terms<C>, body: &Term, from: u64) -> Result<(), Want>
+    requires terms { AreTerms terms.old }
+    requires body { IsTrue (is_body body.now) }
+    requires room { from + beyond body.now ≤ terms.old.store.variables }
+    ensures terms { OnOk result (AreTerms terms.new) }
+    ensures said { OnOk result (said terms.new ≡ record (said terms.old) { goals = map (renamed from) (body_goals body.now) ++ (said terms.old).goals }) }
+    ensures err { OnErr result ((said terms.new).stack ≡ (said terms.old).stack) }
+{
+    terms.store.known();
+    if is_true(body) {
+        return Ok(());
+    }
+    let goal = terms.store.put(&mut terms.names, body, from)?;
+    push_goal(terms, goal)
+}
+
+/// Whether it is the atom `true`.
+fn is_true(term: &Term) -> bool
+    ensures { result ≡ is_true_atom term.now }
+{
+    match term.nodes().first() {
+        Some(Node::Atom(name)) => name.bytes() == b"true".as_slice(),
+        _ => false,
+    }
+}

@@ -1,11 +1,10 @@
--- A fact that is added to a journal, where it has room.
-use Rattle.std.proofs.Common.{◌≡◌, ◌⊎◌, inl, inr, ℕ, suc, ◌+◌, ◌≤◌, ◌<◌, List, [], ◌∷◌, ◌++◌, length, Bool, true, false, Option, Some, None, refl, sym, ◌∙◌, ap, subst, arith, slice_get, IsSome, length-append}
-use Rattle.std.specs.Prelude.{if◌then◌else◌, ◌&&◌, nat_le, nat_lt, option_and_then, option_map, codes}
+-- A clause that is added to a journal, where it has room.
+use Rattle.std.proofs.Common.{◌≡◌, ◌⊎◌, inl, inr, ℕ, suc, ◌+◌, ◌≤◌, ◌<◌, List, [], ◌∷◌, ◌++◌, length, Bool, true, false, Option, Some, None, refl, sym, ◌∙◌, ap, subst, arith, slice_get, length-append}
+use Rattle.std.specs.Prelude.{if◌then◌else◌, ◌&&◌, nat_le, nat_lt, option_and_then, option_map}
 use Rattle.std.proofs.lemmas.Bool.{and_from, and_parts, le-leb, lt-leb, lt-ltb, le-ltb, leb-true, ltb-true}
-use Rattle.prolog_terms.specs.Tree.{Tree, atom}
-use Rattle.prolog_terms.specs.Variables.{AreNumbered}
 use Rattle.prolog_terms.specs.Indicators.{indicator_of}
 use Rattle.prolog_terms.specs.Clauses.{IsClause}
+use Rattle.prolog_terms.specs.declared.entry.Clause.{Clause}
 use Rattle.prolog_terms.specs.declared.entry.Indicator.{Indicator}
 use Rattle.prolog_terms.specs.declared.entry.End.TheVariants.{Back}
 use Rattle.prolog_terms.specs.declared.entry.What.{What}
@@ -17,7 +16,7 @@ use Rattle.journal_base.specs.Space.{used, need}
 use Rattle.journal_base.specs.Legal.{Legal, MayAdd, MayChange, MayFollow}
 use Rattle.journal_base.specs.declared.sizes.Sizes.{Sizes}
 use Rattle.journal_base.proofs.Entries.{Legal-push, used-push, number_of-after, same-equal, same-refl}
-use Rattle.prolog_main.specs.Load.{fact, by_load, has_room, placed, placed_if, placed_behind, with_fact, with_procedure, with_procedure_of, number_or_next}
+use Rattle.prolog_main.specs.Load.{by_load, has_room, placed, placed_if, placed_behind, with_clause, with_procedure, with_procedure_of, number_or_next}
 
 -- the procedure that was found stands so many places on
 record IsFound (ds : List (Indicator × Kind)) (i : Indicator) (n p : ℕ) : Type 0 where
@@ -42,17 +41,9 @@ may_change : (k : Kind) → MayChange k 0
 may_change Static = refl
 may_change Dynamic = tt
 
-some_indicator : (o : Option Indicator) (i : Indicator) → o ≡ Some i → IsSome o
-some_indicator None i h = cc
-some_indicator (Some j) i h = refl
-
-is_clause : (t : Tree) (i : Indicator) → indicator_of t ≡ Some i → AreNumbered t (atom (codes "true")) 0 → IsClause (fact t)
-is_clause t i named numbered = record { head = some_indicator (indicator_of t) i named; body = refl; numbered = numbered }
-
--- a fact of a declared procedure may be added by the load
-pub may_add : (J : Journal) (p : ℕ) (i : Indicator) (t : Tree) → number_of J i ≡ Some p → indicator_of t ≡ Some i → AreNumbered t (atom (codes "true")) 0
-    → MayAdd J 0 p (fact t)
-may_add J p i t number named numbered =
+-- a clause of a declared procedure may be added by the load
+pub may_add : (J : Journal) (p : ℕ) (i : Indicator) (c : Clause) → number_of J i ≡ Some p → indicator_of c.head ≡ Some i → IsClause c → MayAdd J 0 p c
+may_add J p i c number named clause =
     let f = numbered-found 0 (procedures J) i p number in
     let place : f.place ≡ p = omega (arith, f.placed) in
     record {
@@ -60,7 +51,7 @@ may_add J p i t number named numbered =
       declared = ap (λ (k : ℕ). slice_get (procedures J) k) (sym place) ∙ f.there;
       headed = named ∙ ap Some (sym f.same);
       permitted = may_change f.procedure.1;
-      clause = is_clause t i named numbered;
+      clause = clause;
     }
 
 -- ---- procedures by their names
@@ -157,16 +148,16 @@ ready sizes J i None legal absent = record {
   number = number-ready sizes J i None absent;
 }
 
-pub Legal-with_fact : (sizes : Sizes) (J : Journal) (i : Indicator) (t : Tree) → Legal sizes.words sizes.updates J → indicator_of t ≡ Some i
-    → AreNumbered t (atom (codes "true")) 0 → Legal sizes.words sizes.updates (with_fact sizes J i t).journal
-Legal-with_fact sizes J i t legal named numbered = go (with_procedure sizes J i).fits refl
+pub Legal-with_clause : (sizes : Sizes) (J : Journal) (i : Indicator) (c : Clause) → Legal sizes.words sizes.updates J → indicator_of c.head ≡ Some i
+    → IsClause c → Legal sizes.words sizes.updates (with_clause sizes J i c).journal
+Legal-with_clause sizes J i c legal named clause = go (with_procedure sizes J i).fits refl
   where
     go : (b : Bool) → (with_procedure sizes J i).fits ≡ b
-        → Legal sizes.words sizes.updates (if b then placed sizes (with_procedure sizes J i).journal (Add Back (number_or_next J (number_of J i)) (fact t)) else with_procedure sizes J i).journal
+        → Legal sizes.words sizes.updates (if b then placed sizes (with_procedure sizes J i).journal (Add Back (number_or_next J (number_of J i)) c) else with_procedure sizes J i).journal
     go true e =
         let r = ready sizes J i (number_of J i) legal refl in
-        Legal-placed sizes (with_procedure sizes J i).journal (Add Back (number_or_next J (number_of J i)) (fact t)) r.legal
-        (may_add (with_procedure sizes J i).journal (number_or_next J (number_of J i)) i t (r.number e) named numbered)
+        Legal-placed sizes (with_procedure sizes J i).journal (Add Back (number_or_next J (number_of J i)) c) r.legal
+        (may_add (with_procedure sizes J i).journal (number_or_next J (number_of J i)) i c (r.number e) named clause)
     go false e = (ready sizes J i (number_of J i) legal refl).legal
 
 -- ---- what the load's base holds
@@ -188,16 +179,16 @@ pub not_declared : (sizes : Sizes) (J : Journal) (i : Indicator) → number_of J
     → with_procedure sizes J i ≡ record { journal = J; fits = false }
 not_declared sizes J i h r = ap (with_procedure_of sizes J i) h ∙ ap (λ b. placed_if b J (Declare i Static)) r
 
--- where the procedure is there, the fact has room or it hasn't
-pub fact_placed : (sizes : Sizes) (J : Journal) (i : Indicator) (t : Tree) (p : ℕ) (b : Bool) → (with_procedure sizes J i).fits ≡ true
-    → number_of (with_procedure sizes J i).journal i ≡ Some p → has_room sizes (with_procedure sizes J i).journal (Add Back p (fact t)) ≡ b
-    → with_fact sizes J i t ≡ placed_if b (with_procedure sizes J i).journal (Add Back p (fact t))
-fact_placed sizes J i t p b fits number r =
-    ap (λ (n : ℕ). placed_behind sizes (with_procedure sizes J i) (Add Back n (fact t))) (number-known sizes J i p fits number)
-    ∙ ap (λ (c : Bool). if c then placed sizes (with_procedure sizes J i).journal (Add Back p (fact t)) else with_procedure sizes J i) fits
-    ∙ ap (λ (c : Bool). placed_if c (with_procedure sizes J i).journal (Add Back p (fact t))) r
+-- where the procedure is there, the clause has room or it hasn't
+pub clause_placed : (sizes : Sizes) (J : Journal) (i : Indicator) (c : Clause) (p : ℕ) (b : Bool) → (with_procedure sizes J i).fits ≡ true
+    → number_of (with_procedure sizes J i).journal i ≡ Some p → has_room sizes (with_procedure sizes J i).journal (Add Back p c) ≡ b
+    → with_clause sizes J i c ≡ placed_if b (with_procedure sizes J i).journal (Add Back p c)
+clause_placed sizes J i c p b fits number r =
+    ap (λ (n : ℕ). placed_behind sizes (with_procedure sizes J i) (Add Back n c)) (number-known sizes J i p fits number)
+    ∙ ap (λ (b : Bool). if b then placed sizes (with_procedure sizes J i).journal (Add Back p c) else with_procedure sizes J i) fits
+    ∙ ap (λ (b : Bool). placed_if b (with_procedure sizes J i).journal (Add Back p c)) r
 
 -- where the procedure isn't there, for want of room, nothing is added
-pub fact_left : (sizes : Sizes) (J : Journal) (i : Indicator) (t : Tree) → (with_procedure sizes J i).fits ≡ false → with_fact sizes J i t ≡ with_procedure sizes J i
-fact_left sizes J i t fits =
-    ap (λ (c : Bool). if c then placed sizes (with_procedure sizes J i).journal (Add Back (number_or_next J (number_of J i)) (fact t)) else with_procedure sizes J i) fits
+pub clause_left : (sizes : Sizes) (J : Journal) (i : Indicator) (c : Clause) → (with_procedure sizes J i).fits ≡ false → with_clause sizes J i c ≡ with_procedure sizes J i
+clause_left sizes J i c fits =
+    ap (λ (b : Bool). if b then placed sizes (with_procedure sizes J i).journal (Add Back (number_or_next J (number_of J i)) c) else with_procedure sizes J i) fits

@@ -2,10 +2,11 @@ pub mod Pieces
 pub mod Walks
 pub mod Plains
 pub mod Ran
-pub mod Ground
 pub mod Facts
 pub mod Placing
 pub mod Loads
 pub mod OneTerm
+pub mod Digits
+pub mod Answered
 pub mod Rows
 pub mod Outcomes

@@ -5,13 +5,13 @@ use Rattle.std.specs.declared.option.Option.{Option}
 use Rattle.std.specs.declared.result.Result.{Result}
 use Rattle.std.specs.Io.KnownBytes.{Appends, Keeps}
 use Rattle.prolog_terms.specs.declared.want.Want.{Want}
-use Rattle.prolog_terms.specs.Tree.{Tree}
 use Rattle.journal_base.specs.Journal.{Journal}
 use Rattle.journal_base.specs.Legal.{Legal}
 use Rattle.journal_base.specs.declared.sizes.Sizes.{Sizes}
 use Rattle.wam_machine.specs.declared.run.Run.{Run}
 use Rattle.prolog_main.specs.declared.writing.Written.{Written}
 use Rattle.prolog_main.specs.declared.writing.Written.TheVariants.{All as Wrote, Failed as Cut, Want as Wanted}
+use Rattle.prolog_main.specs.declared.words.Command.{Command}
 use Rattle.prolog_main.specs.declared.refusal.Refusal.{Refusal}
 use Rattle.prolog_main.specs.declared.prepare.Prepared.{Prepared}
 use Rattle.prolog_main.specs.declared.prepare.Prepared.TheVariants.{BadWords, SourceFailed, TooLong, Refused, Ran}
@@ -20,7 +20,7 @@ use Rattle.prolog_main.specs.Sinks.{AppendsPrefix}
 use Rattle.prolog_main.specs.Load.{load_runs_of, refusal_of}
 use Rattle.prolog_main.specs.Errors.{bad_words_text, source_text, too_long_text, refusal_text}
 use Rattle.prolog_main.specs.Headline.{IsRun, HasRuns, IsLoaded, IsEmpty, IsStatus, expected, expected_of, Ends, IsTooLong, HasLoaded, HasRun, HasRefused, Gains, HasBegun, of_bad_words, of_source, of_too_long, of_refusal, of_runs}
-use Rattle.prolog_main.specs.Runs.{step_budget, AreRunsBehind}
+use Rattle.prolog_main.specs.Runs.{AreRunsBehind}
 use Rattle.prolog_main.specs.Output.{load_text, output_of}
 use Rattle.prolog_main.specs.Prepared.{Prepares, status_before}
 use Rattle.prolog_main.specs.Ends.{final_status, final_journal, final_runs, runs_left, shown}
@@ -30,7 +30,7 @@ use Rattle.prolog_main.proofs.Rows.{status_small, run_is_not, run_is_not_2, run_
 -- ---- the outcome
 
 -- where the text was refused, the runs are the load's
-pub load_runs_row : (sizes : Sizes) (command : Option (Option Tree)) (so sn : Option (List ℕ)) (p : Result Prepared Want) (w : Written) →
+pub load_runs_row : (sizes : Sizes) (command : Option Command) (so sn : Option (List ℕ)) (p : Result Prepared Want) (w : Written) →
     IfOk p (Prepares sizes command so sn) → final_status p w ≡ 3 → IfSome so (λ text. final_runs p w ≡ load_runs_of sizes text)
 load_runs_row sizes command None sn p w h e = tt
 load_runs_row sizes command (Some bytes) sn (Err want) w h e = absurd (omega arith)
@@ -42,7 +42,7 @@ load_runs_row sizes command (Some bytes) sn (Ok p) Cut h e = absurd (omega arith
 load_runs_row sizes command (Some bytes) sn (Ok p) Wanted h e = absurd (omega arith)
 
 -- where the goal has run
-pub ran_row : (sizes : Sizes) (command : Option (Option Tree)) (so sn : Option (List ℕ)) (p : Result Prepared Want) (w : Written) →
+pub ran_row : (sizes : Sizes) (command : Option Command) (so sn : Option (List ℕ)) (p : Result Prepared Want) (w : Written) →
     IfOk p (Prepares sizes command so sn) → HasRuns (final_status p w) → HasRun sizes command so sn (final_journal p w) (final_runs p w)
 ran_row sizes command so sn (Err want) w h e = absurd (not_ran 6 e (λ f. omega arith) (λ f. omega arith) (λ f. omega arith) (λ f. omega arith))
 ran_row sizes command so sn (Ok p) Wanted h e = absurd (not_ran 6 e (λ f. omega arith) (λ f. omega arith) (λ f. omega arith) (λ f. omega arith))
@@ -58,13 +58,13 @@ ran_row sizes command so sn (Ok (Ran journal runs)) Wrote h e = h
 ran_row sizes command so sn (Ok (Ran journal runs)) Cut h e = h
 
 -- where the source tells its text, the runs begin with those of its load
-pub runs_told : (sizes : Sizes) (command : Option (Option Tree)) (so sn : Option (List ℕ)) (journal : Journal) (runs : List Run) → HasRun sizes command so sn journal runs
-    → IfSome so (λ text. IfSome command (λ goal. AreRunsBehind step_budget (load_runs_of sizes text) goal journal runs))
+pub runs_told : (sizes : Sizes) (command : Option Command) (so sn : Option (List ℕ)) (journal : Journal) (runs : List Run) → HasRun sizes command so sn journal runs
+    → IfSome so (λ text. IfSome command (λ asked. AreRunsBehind (load_runs_of sizes text) asked journal runs))
 runs_told sizes command None sn journal runs h = tt
 runs_told sizes command (Some bytes) sn journal runs h =
     let loads : h.loads ≡ load_runs_of sizes bytes = told_runs sizes bytes sn journal h.loads None h.loaded in
-    let P : Option (Option Tree) → Type 0 = λ c. IfSome c (λ goal. AreRunsBehind step_budget (load_runs_of sizes bytes) goal journal runs) in
-    subst P (sym h.goal_is) (subst (λ (l : List Run). AreRunsBehind step_budget l h.goal journal runs) loads h.runs_are)
+    let P : Option Command → Type 0 = λ c. IfSome c (λ asked. AreRunsBehind (load_runs_of sizes bytes) asked journal runs) in
+    subst P (sym h.asked_is) (subst (λ (l : List Run). AreRunsBehind l h.asked journal runs) loads h.runs_are)
 
 -- where neither the journal nor the runs are told, the status is none of these
 record IsApart (k : ℕ) : Type 0 where
@@ -100,7 +100,7 @@ loaded_legal : (sizes : Sizes) (so sn : Option (List ℕ)) (journal : Journal) (
     → Legal sizes.words sizes.updates journal
 loaded_legal sizes so sn journal runs refused h = subst (Legal sizes.words sizes.updates) (sym h.journal_is) (Legal-journal_of sizes h.text)
 
-pub legal_row : (sizes : Sizes) (command : Option (Option Tree)) (so sn : Option (List ℕ)) (p : Result Prepared Want) (w : Written) →
+pub legal_row : (sizes : Sizes) (command : Option Command) (so sn : Option (List ℕ)) (p : Result Prepared Want) (w : Written) →
     IfOk p (Prepares sizes command so sn) → IsLoaded (final_status p w) → Legal sizes.words sizes.updates (final_journal p w)
 legal_row sizes command so sn (Err want) w h e = absurd (not_loaded 6 (inr (inr (inl refl))) e)
 legal_row sizes command so sn (Ok p) Wanted h e = absurd (not_loaded 6 (inr (inr (inl refl))) e)
@@ -161,7 +161,7 @@ shown_too_long (Ok p) Cut e = absurd (omega arith)
 shown_too_long (Ok p) Wanted e = absurd (omega arith)
 
 -- a text that was refused, and the text of its refusal
-pub in_part_row : (sizes : Sizes) (command : Option (Option Tree)) (so sn ko kn : Option (List ℕ)) (rk : Type 0) (p : Result Prepared Want) (w : Written) →
+pub in_part_row : (sizes : Sizes) (command : Option Command) (so sn ko kn : Option (List ℕ)) (rk : Type 0) (p : Result Prepared Want) (w : Written) →
     IfOk p (Prepares sizes command so sn) → AppendsPrefix ko kn (shown p) → (w ≡ Wrote → Appends ko kn (shown p)) → (w ≡ Cut → rk) →
     final_status p w ≡ 3 → HasRefused sizes so sn (final_journal p w) (final_runs p w) rk ko kn
 in_part_row sizes command so sn ko kn rk (Err want) w h prefix whole cut e = absurd (omega arith)
@@ -184,34 +184,34 @@ short bytes o runs le = ap (λ (b : Bool). expected_of b o runs) (le-ltb max_tex
 long : (bytes : List ℕ) (o : Option Refusal) (runs : List Run) → max_text < length bytes → expected_of (nat_lt max_text (length bytes)) o runs ≡ 8
 long bytes o runs lt = ap (λ (b : Bool). expected_of b o runs) (lt-ltb max_text (length bytes) lt)
 
-taken : (command : Option (Option Tree)) (bytes : List ℕ) (runs : List Run) → IsSome command
+taken : (command : Option Command) (bytes : List ℕ) (runs : List Run) → IsSome command
     → expected command bytes runs ≡ expected_of (nat_lt max_text (length bytes)) (refusal_of bytes) runs
 taken None bytes runs h = absurd cc
 taken (Some goal) bytes runs h = refl
 
-no_command : (command : Option (Option Tree)) (bytes : List ℕ) (runs : List Run) → IsNone command → expected command bytes runs ≡ 2
+no_command : (command : Option Command) (bytes : List ℕ) (runs : List Run) → IsNone command → expected command bytes runs ≡ 2
 no_command None bytes runs h = refl
 no_command (Some goal) bytes runs h = absurd cc
 
-is_some : (command : Option (Option Tree)) (goal : Option Tree) → command ≡ Some goal → IsSome command
-is_some None goal h = cc
-is_some (Some other) goal h = refl
+is_some : (command : Option Command) (asked : Command) → command ≡ Some asked → IsSome command
+is_some None asked h = cc
+is_some (Some other) asked h = refl
 
-expected_loaded : (sizes : Sizes) (command : Option (Option Tree)) (bytes : List ℕ) (sn : Option (List ℕ)) (journal : Journal) (loads : List Run) (refused : Option Refusal)
+expected_loaded : (sizes : Sizes) (command : Option Command) (bytes : List ℕ) (sn : Option (List ℕ)) (journal : Journal) (loads : List Run) (refused : Option Refusal)
     (runs : List Run) → IsSome command → HasLoaded sizes (Some bytes) sn journal loads refused → expected command bytes runs ≡ expected_of false refused runs
 expected_loaded sizes command bytes sn journal loads refused runs some h =
     taken command bytes runs some ∙ short bytes (refusal_of bytes) runs (told_fits bytes sn h.text h.took)
     ∙ ap (λ (o : Option Refusal). expected_of false o runs) (told_refusal sizes bytes sn journal loads refused h)
 
 -- what was prepared has the status that is expected
-expected_told : (sizes : Sizes) (command : Option (Option Tree)) (bytes : List ℕ) (sn : Option (List ℕ)) (p : Prepared) → (p ≡ SourceFailed → ⊥) →
+expected_told : (sizes : Sizes) (command : Option Command) (bytes : List ℕ) (sn : Option (List ℕ)) (p : Prepared) → (p ≡ SourceFailed → ⊥) →
     Prepares sizes command (Some bytes) sn p → status_before p ≡ expected command bytes (runs_left p)
 expected_told sizes command bytes sn BadWords other h = sym (no_command command bytes [] h.0)
 expected_told sizes command bytes sn SourceFailed other h = absurd (other refl)
 expected_told sizes command bytes sn TooLong other h = sym (taken command bytes [] h.0 ∙ long bytes (refusal_of bytes) [] (told_long bytes sn h.1))
 expected_told sizes command bytes sn (Refused journal runs refusal) other h = sym (expected_loaded sizes command bytes sn journal runs (Some refusal) runs h.0 h.1)
 expected_told sizes command bytes sn (Ran journal runs) other h =
-    sym (expected_loaded sizes command bytes sn journal h.loads None runs (is_some command h.goal h.goal_is) h.loaded)
+    sym (expected_loaded sizes command bytes sn journal h.loads None runs (is_some command h.asked h.asked_is) h.loaded)
 
 -- words that are taken lead to another status than 2
 not_two : (b : Bool) (o : Option Refusal) (runs : List Run) → expected_of b o runs ≡ 2 → ⊥
@@ -219,10 +219,10 @@ not_two true o runs e = omega arith
 not_two false (Some refusal) runs e = omega arith
 not_two false None runs e = run_is_not_2 runs e
 
-taken_not_two : (command : Option (Option Tree)) (bytes : List ℕ) (runs : List Run) → IsSome command → expected command bytes runs ≡ 2 → ⊥
+taken_not_two : (command : Option Command) (bytes : List ℕ) (runs : List Run) → IsSome command → expected command bytes runs ≡ 2 → ⊥
 taken_not_two command bytes runs h e = not_two _ _ runs (sym (taken command bytes runs h) ∙ e)
 
-pub complete_row : (sizes : Sizes) (command : Option (Option Tree)) (so sn : Option (List ℕ)) (rs rk : Type 0) (p : Result Prepared Want) (w : Written) →
+pub complete_row : (sizes : Sizes) (command : Option Command) (so sn : Option (List ℕ)) (rs rk : Type 0) (p : Result Prepared Want) (w : Written) →
     IfOk p (Prepares sizes command so sn) → IfOk p (λ x. x ≡ SourceFailed → rs) → (w ≡ Cut → rk) →
     IfSome so (λ bytes. Ends (expected command bytes (final_runs p w)) rs rk (final_status p w))
 complete_row sizes command None sn rs rk p w h f cut = tt
@@ -237,7 +237,7 @@ complete_row sizes command (Some bytes) sn rs rk (Ok p) Cut h f cut = inl (expec
 
 -- ---- the source, want of memory, and every status
 
-pub unread_row : (sizes : Sizes) (command : Option (Option Tree)) (so sn : Option (List ℕ)) (p : Result Prepared Want) (w : Written) →
+pub unread_row : (sizes : Sizes) (command : Option Command) (so sn : Option (List ℕ)) (p : Result Prepared Want) (w : Written) →
     IfOk p (Prepares sizes command so sn) → final_status p w ≡ 2 → Keeps so sn
 unread_row sizes command so sn (Err want) w h e = absurd (omega arith)
 unread_row sizes command so sn (Ok BadWords) w h e = h.1
@@ -246,7 +246,7 @@ unread_row sizes command so sn (Ok p) Wrote h e = absurd (omega arith)
 unread_row sizes command so sn (Ok p) Cut h e = absurd (omega arith)
 unread_row sizes command so sn (Ok p) Wanted h e = absurd (omega arith)
 
-pub too_long_read_row : (sizes : Sizes) (command : Option (Option Tree)) (so sn : Option (List ℕ)) (p : Result Prepared Want) (w : Written) →
+pub too_long_read_row : (sizes : Sizes) (command : Option Command) (so sn : Option (List ℕ)) (p : Result Prepared Want) (w : Written) →
     IfOk p (Prepares sizes command so sn) → final_status p w ≡ 8 → IsTooLong so sn
 too_long_read_row sizes command so sn (Err want) w h e = absurd (omega arith)
 too_long_read_row sizes command so sn (Ok TooLong) w h e = h.1
@@ -263,7 +263,7 @@ nothing : (ko kn : Option (List ℕ)) → AppendsPrefix ko kn [] → Appends ko 
 nothing ko kn h = subst (λ (s : List ℕ). Appends ko kn s) (take-nil h.0) h.1
 
 -- at want of memory the sink gained nothing, or a prefix of what was to be written
-pub wanted_row : (sizes : Sizes) (command : Option (Option Tree)) (so sn ko kn : Option (List ℕ)) (rs : Type 0) (p : Result Prepared Want) →
+pub wanted_row : (sizes : Sizes) (command : Option Command) (so sn ko kn : Option (List ℕ)) (rs : Type 0) (p : Result Prepared Want) →
     IfOk p (Prepares sizes command so sn) → IfOk p (λ x. x ≡ SourceFailed → rs) → AppendsPrefix ko kn (shown p) →
     Appends ko kn [] ⊎ HasBegun sizes command rs so sn ko kn
 wanted_row sizes command so sn ko kn rs (Err want) h f prefix = inl (nothing ko kn prefix)

@@ -1,8 +1,6 @@
 -- What the load's base holds after the answers of its updates.
 use Rattle.std.proofs.Common.{◌≡◌, ◌⊎◌, inl, inr, ℕ, ◌+◌, ◌<◌, [], ◌∷◌, ◌++◌, length, true, false, Some, None, refl, sym, ◌∙◌, ap, subst}
-use Rattle.std.specs.Prelude.{codes}
-use Rattle.prolog_terms.specs.Tree.{Tree, atom}
-use Rattle.prolog_terms.specs.Variables.{AreNumbered}
+use Rattle.prolog_terms.specs.Clauses.{IsClause}
 use Rattle.prolog_terms.specs.Indicators.{indicator_of}
 use Rattle.prolog_terms.specs.declared.entry.Indicator.{Indicator}
 use Rattle.prolog_terms.specs.declared.entry.Clause.{Clause}
@@ -19,10 +17,10 @@ use Rattle.journal_base.specs.Updates.{IsFull, IsDeclared, IsAdded}
 use Rattle.journal_base.specs.Plain.{Plain, plain_view, plain_out, IsContinued}
 use Rattle.journal_base.specs.declared.answers.Declared.TheVariants as declared
 use Rattle.journal_base.specs.declared.answers.Added.TheVariants as added
-use Rattle.prolog_main.specs.Load.{fact, by_load, has_room, Placed, with_procedure}
-use Rattle.prolog_main.specs.Bases.{sizes_of, HasProcedure, HasFact}
+use Rattle.prolog_main.specs.Load.{by_load, has_room, Placed, with_procedure}
+use Rattle.prolog_main.specs.Bases.{sizes_of, HasProcedure, HasClause}
 use Rattle.prolog_main.proofs.Plains.{in_seen, to_seen, same_after, more_after}
-use Rattle.prolog_main.proofs.Facts.{may_add, named-number, unnamed-number, room, no_room, declared-before, declared-now, not_declared, fact_placed, fact_left}
+use Rattle.prolog_main.proofs.Facts.{may_add, named-number, unnamed-number, room, no_room, declared-before, declared-now, not_declared, clause_placed, clause_left}
 
 -- what a base has no room for
 full : (s : Plain) (what : What) (u n g : ℕ) → IsFull (plain_view s) what u n g → has_room (sizes_of s) s.entries what ≡ false
@@ -101,70 +99,61 @@ pub declares_full : (s m t : Plain) (i : Indicator) (u n g : ℕ) → m ≡ s �
 declares_full s m t i u n g same absent c o d =
     not_declared_now s t i u n g (subst (λ (b : Plain). number_of b.entries i ≡ None) same (unnamed-number m.entries i absent)) (same_after m t c d.0 o ∙ same) d.2
 
--- ---- a fact
+-- ---- a clause
 
-fact_done : (s m t : Plain) (i : Indicator) (p : ℕ) (head : Tree) → s.number ≡ 0 → HasProcedure s m i (Some p)
-    → t ≡ record m { entries = m.entries ++ record { by = m.number; what = Add Back p (fact head) } ∷ [] } → Legal t.words t.updates t.entries → HasFact s t i head true
-fact_done s m t i p head zero h is legal =
+clause_done : (s m t : Plain) (i : Indicator) (p : ℕ) (c : Clause) → s.number ≡ 0 → HasProcedure s m i (Some p)
+    → t ≡ record m { entries = m.entries ++ record { by = m.number; what = Add Back p c } ∷ [] } → Legal t.words t.updates t.entries → HasClause s t i c true
+clause_done s m t i p c zero h is legal =
     let J' : Journal = (with_procedure (sizes_of s) s.entries i).journal in
-    let what : What = Add Back p (fact head) in
+    let what : What = Add Back p c in
     let now : t ≡ record s { entries = J' ++ by_load what ∷ [] } =
     is ∙ ap (λ (b : Plain). record b { entries = b.entries ++ record { by = b.number; what = what } ∷ [] }) h.holds.base
     ∙ ap (λ (n : ℕ). record s { entries = J' ++ record { by = n; what = what } ∷ [] }) zero in
     let has = room (sizes_of s) J' what (subst (λ (b : Plain). Legal b.words b.updates b.entries) now legal) in
     let number : number_of J' i ≡ Some p = subst (λ (b : Plain). number_of b.entries i ≡ Some p) h.holds.base h.numbered in
-    let w = fact_placed (sizes_of s) s.entries i head p true (sym h.holds.room) number has in
+    let w = clause_placed (sizes_of s) s.entries i c p true (sym h.holds.room) number has in
     record {
       base = now ∙ ap (λ (x : Placed). record s { entries = x.journal }) (sym w);
       room = ap (λ (x : Placed). x.fits) (sym w);
     }
 
-fact_full : (s m t : Plain) (i : Indicator) (p u n g : ℕ) (head : Tree) → HasProcedure s m i (Some p)
-    → t ≡ m → IsFull (plain_view t) (Add Back p (fact head)) u n g → HasFact s t i head false
-fact_full s m t i p u n g head h same is =
+clause_full : (s m t : Plain) (i : Indicator) (p u n g : ℕ) (c : Clause) → HasProcedure s m i (Some p)
+    → t ≡ m → IsFull (plain_view t) (Add Back p c) u n g → HasClause s t i c false
+clause_full s m t i p u n g c h same is =
     let J' : Journal = (with_procedure (sizes_of s) s.entries i).journal in
-    let what : What = Add Back p (fact head) in
+    let what : What = Add Back p c in
     let now : t ≡ record s { entries = J' } = same ∙ h.holds.base in
     let none : has_room (sizes_of s) J' what ≡ false = subst (λ (b : Plain). has_room (sizes_of b) b.entries what ≡ false) now (full t what u n g is) in
     let number : number_of J' i ≡ Some p = subst (λ (b : Plain). number_of b.entries i ≡ Some p) h.holds.base h.numbered in
-    let w = fact_placed (sizes_of s) s.entries i head p false (sym h.holds.room) number none in
+    let w = clause_placed (sizes_of s) s.entries i c p false (sym h.holds.room) number none in
     record {
       base = now ∙ ap (λ (x : Placed). record s { entries = x.journal }) (sym w);
       room = ap (λ (x : Placed). x.fits) (sym w);
     }
 
-abbrev clause_of : Tree → Tree → Clause
-clause_of head body = record { head = head; body = body; vars = 0 }
-
--- the fact may be added to the procedure's clauses
-pub may_be_added : (s m : Plain) (i : Indicator) (p : ℕ) (head body : Tree) → body ≡ atom (codes "true") → s.number ≡ 0 → HasProcedure s m i (Some p)
-    → indicator_of head ≡ Some i → AreNumbered head (atom (codes "true")) 0 → InSeen (plain_view m) (λ J. MayAdd J m.number p (clause_of head body))
-may_be_added s m i p head body is zero h named numbered =
-    let may = may_add m.entries p i head h.numbered named numbered in
+-- the clause may be added to the procedure's clauses
+pub may_be_added : (s m : Plain) (i : Indicator) (p : ℕ) (c : Clause) → s.number ≡ 0 → HasProcedure s m i (Some p)
+    → indicator_of c.head ≡ Some i → IsClause c → InSeen (plain_view m) (λ J. MayAdd J m.number p c)
+may_be_added s m i p c zero h named clause =
+    let may = may_add m.entries p i c h.numbered named clause in
     let number : 0 ≡ m.number = sym zero ∙ sym (ap (λ (b : Plain). b.number) h.holds.base) in
-    to_seen m (λ J. MayAdd J m.number p (clause_of head body))
-    (subst (λ (b : Tree). MayAdd m.entries m.number p (clause_of head b)) (sym is) (subst (λ (n : ℕ). MayAdd m.entries n p (fact head)) number may))
+    to_seen m (λ J. MayAdd J m.number p c) (subst (λ (n : ℕ). MayAdd m.entries n p c) number may)
 
--- the fact is added
-pub adds_done : (s m t : Plain) (i : Indicator) (p k : ℕ) (head body : Tree) → body ≡ atom (codes "true") → s.number ≡ 0 → HasProcedure s m i (Some p)
-    → IsContinued m t → plain_out t.out ≡ plain_out m.out → IsAdded (plain_view m) (plain_view t) (Add Back p (clause_of head body)) (added.Done k) → HasFact s t i head true
-adds_done s m t i p k head body is zero h c o d =
-    let more = more_after m t (Add Back p (clause_of head body)) c d.0 o in
-    let same : t ≡ record m { entries = m.entries ++ record { by = m.number; what = Add Back p (fact head) } ∷ [] } =
-    more ∙ ap (λ (b : Tree). record m { entries = m.entries ++ record { by = m.number; what = Add Back p (clause_of head b) } ∷ [] }) is in
-    fact_done s m t i p head zero h same (d.0.grows.sound.each t.entries refl).legal
+-- the clause is added
+pub adds_done : (s m t : Plain) (i : Indicator) (p k : ℕ) (c : Clause) → s.number ≡ 0 → HasProcedure s m i (Some p)
+    → IsContinued m t → plain_out t.out ≡ plain_out m.out → IsAdded (plain_view m) (plain_view t) (Add Back p c) (added.Done k) → HasClause s t i c true
+adds_done s m t i p k c zero h on o d =
+    clause_done s m t i p c zero h (more_after m t (Add Back p c) on d.0 o) (d.0.grows.sound.each t.entries refl).legal
 
--- the fact has no room
-pub adds_full : (s m t : Plain) (i : Indicator) (p u n g : ℕ) (head body : Tree) → body ≡ atom (codes "true") → HasProcedure s m i (Some p)
-    → IsContinued m t → plain_out t.out ≡ plain_out m.out → IsAdded (plain_view m) (plain_view t) (Add Back p (clause_of head body)) (added.Full u n g) → HasFact s t i head false
-adds_full s m t i p u n g head body is h c o d =
-    let whole : IsFull (plain_view t) (Add Back p (fact head)) u n g = subst (λ (b : Tree). IsFull (plain_view t) (Add Back p (clause_of head b)) u n g) is d.1 in
-    fact_full s m t i p u n g head h (same_after m t c d.0 o) whole
+-- the clause has no room
+pub adds_full : (s m t : Plain) (i : Indicator) (p u n g : ℕ) (c : Clause) → HasProcedure s m i (Some p)
+    → IsContinued m t → plain_out t.out ≡ plain_out m.out → IsAdded (plain_view m) (plain_view t) (Add Back p c) (added.Full u n g) → HasClause s t i c false
+adds_full s m t i p u n g c h on o d = clause_full s m t i p u n g c h (same_after m t on d.0 o) d.1
 
 -- the procedure had no room
-pub adds_none : (s m : Plain) (i : Indicator) (head : Tree) → HasProcedure s m i None → HasFact s m i head false
-adds_none s m i head h =
-    let w = fact_left (sizes_of s) s.entries i head (sym h.holds.room) in
+pub adds_none : (s m : Plain) (i : Indicator) (c : Clause) → HasProcedure s m i None → HasClause s m i c false
+adds_none s m i c h =
+    let w = clause_left (sizes_of s) s.entries i c (sym h.holds.room) in
     record {
       base = h.holds.base ∙ ap (λ (x : Placed). record s { entries = x.journal }) (sym w);
       room = h.holds.room ∙ ap (λ (x : Placed). x.fits) (sym w);

@@ -5,12 +5,12 @@ use Rattle.std.specs.List.{list_any}
 use Rattle.std.specs.declared.option.Option.{Option}
 use Rattle.std.specs.declared.result.Result.{Result}
 use Rattle.prolog_terms.specs.declared.want.Want.{Want}
-use Rattle.prolog_terms.specs.Tree.{Tree}
 use Rattle.journal_base.specs.Journal.{Journal}
 use Rattle.journal_base.specs.declared.sizes.Sizes.{Sizes}
 use Rattle.wam_machine.specs.declared.run.Run.{Run}
 use Rattle.prolog_main.specs.declared.writing.Written.{Written}
 use Rattle.prolog_main.specs.declared.writing.Written.TheVariants.{All as Wrote, Failed as Cut, Want as Wanted}
+use Rattle.prolog_main.specs.declared.words.Command.{Command}
 use Rattle.prolog_main.specs.declared.refusal.Refusal.{Refusal}
 use Rattle.prolog_main.specs.declared.prepare.Prepared.{Prepared}
 use Rattle.prolog_main.specs.declared.prepare.Prepared.TheVariants.{BadWords, SourceFailed, TooLong, Refused, Ran}
@@ -125,7 +125,7 @@ told_runs sizes bytes sn journal runs refused h = h.runs_are ∙ ap (λ (s : Lis
 
 -- ---- the rows
 
-pub bad_words_row : (sizes : Sizes) (command : Option (Option Tree)) (so sn : Option (List ℕ)) (p : Result Prepared Want) (w : Written) →
+pub bad_words_row : (sizes : Sizes) (command : Option Command) (so sn : Option (List ℕ)) (p : Result Prepared Want) (w : Written) →
     IfOk p (Prepares sizes command so sn) → final_status p w ≡ 2 → IsNone command
 bad_words_row sizes command so sn (Err want) w h e = absurd (omega arith)
 bad_words_row sizes command so sn (Ok BadWords) Wrote h e = h.0
@@ -144,7 +144,7 @@ source_row rs (Ok p) Wrote h e = absurd (omega arith)
 source_row rs (Ok p) Cut h e = absurd (omega arith)
 source_row rs (Ok p) Wanted h e = absurd (omega arith)
 
-pub too_long_row : (sizes : Sizes) (command : Option (Option Tree)) (so sn : Option (List ℕ)) (p : Result Prepared Want) (w : Written) →
+pub too_long_row : (sizes : Sizes) (command : Option Command) (so sn : Option (List ℕ)) (p : Result Prepared Want) (w : Written) →
     IfOk p (Prepares sizes command so sn) → final_status p w ≡ 8 → IfSome so (λ text. max_text < length text)
 too_long_row sizes command None sn p w h e = tt
 too_long_row sizes command (Some bytes) sn (Err want) w h e = absurd (omega arith)
@@ -159,7 +159,7 @@ some_refusal : (o : Option Refusal) (r : Refusal) → o ≡ Some r → IsSome o
 some_refusal None r e = cc
 some_refusal (Some x) r e = refl
 
-pub refused_row : (sizes : Sizes) (command : Option (Option Tree)) (so sn : Option (List ℕ)) (p : Result Prepared Want) (w : Written) →
+pub refused_row : (sizes : Sizes) (command : Option Command) (so sn : Option (List ℕ)) (p : Result Prepared Want) (w : Written) →
     IfOk p (Prepares sizes command so sn) → final_status p w ≡ 3 → IfSome so (λ text. IsSome (refusal_of text))
 refused_row sizes command None sn p w h e = tt
 refused_row sizes command (Some bytes) sn (Err want) w h e = absurd (omega arith)

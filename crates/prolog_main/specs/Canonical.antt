@@ -1,11 +1,11 @@
--- The canonical text of a term. It writes every compound in the same way: operators and list brackets are not looked at.
-use Rattle.std.specs.Prelude.{ℕ, ◌+◌, ◌-◌, ◌/◌, ◌%◌, List, [], ◌∷◌, ◌++◌, Bool, false, ◌&&◌, ◌||◌, not, ◌==◌, nat_le, nat_lt, nat_eq, codes, if◌then◌else◌}
+-- The canonical text of a term. Lists stand in brackets and terms of the name {} with one argument in braces; every other compound
+-- is written in the same way, whatever operators there are. Between a name, a number or a variable and the next one there is
+-- always a bracket, a comma or a bar, so that no two run together, and no space is needed.
+use Rattle.std.specs.Prelude.{ℕ, ◌+◌, ◌/◌, ◌%◌, List, [], ◌∷◌, ◌++◌, Bool, false, ◌&&◌, ◌||◌, not, ◌==◌, nat_le, nat_lt, nat_eq, codes, if◌then◌else◌}
 use Rattle.std.specs.List.{list_all, list_any, flat_map, starts_with}
 use Rattle.std.specs.Cmp.Lexicographic.{pointwise}
 use Rattle.std.specs.Fmt.{decimal, signed_decimal}
-use Rattle.prolog_terms.specs.Tree.{Tree, Trees, variable, integer, atom, compound, none, more}
-use Rattle.prolog_terms.specs.declared.node.Node.{Node}
-use Rattle.prolog_terms.specs.declared.node.Node.TheVariants.{Var, Int, Atom, Functor}
+use Rattle.prolog_terms.specs.Tree.{Tree, Trees, variable, integer, atom, compound, none, more, count}
 
 -- ---- names that stand without quotes (ISO/IEC 13211-1, 6.4.2)
 
@@ -77,13 +77,30 @@ functor_text name = if is_brackets name then in_quotes name else quoted name
 
 -- ---- terms
 
+-- a list cell has two arguments, an element and the list behind it, and the name `.`
+abbrev pub is_cell : List ℕ → ℕ → Bool
+is_cell name arity = arity == 2 && same_text name (codes ".")
+
+-- a term in braces has one argument and the name {}
+abbrev pub is_braced : List ℕ → ℕ → Bool
+is_braced name arity = arity == 1 && same_text name (codes "{}")
+
+-- the list without elements
+abbrev pub is_nil : List ℕ → Bool
+is_nil name = same_text name (codes "[]")
+
+-- a compound that is no list, round the text of its arguments
+abbrev pub around : List ℕ → ℕ → List ℕ → List ℕ
+around name arity inside =
+    if is_braced name arity then codes "{" ++ inside ++ codes "}" else functor_text name ++ codes "(" ++ inside ++ codes ")"
+
 abbrev mutual
   -- the canonical text of a term
   pub canonical : Tree → List ℕ
   canonical (variable n) = codes "_" ++ decimal (n + 1)
   canonical (integer z) = signed_decimal z
   canonical (atom name) = quoted name
-  canonical (compound name ts) = functor_text name ++ codes "(" ++ arguments ts ++ codes ")"
+  canonical (compound name ts) = if is_cell name (count ts) then codes "[" ++ items ts ++ codes "]" else around name (count ts) (arguments ts)
 
   -- the texts of arguments, with a comma between each two
   pub arguments : Trees → List ℕ
@@ -91,28 +108,15 @@ abbrev mutual
   arguments (more t none) = canonical t
   arguments (more t (more u us)) = canonical t ++ codes "," ++ arguments (more u us)
 
--- ---- the same, node by node: `counts` says how many arguments are still to come in each open compound, the innermost first
+  -- the first element of a list, and what stands behind it
+  pub items : Trees → List ℕ
+  items none = []
+  items (more t none) = canonical t
+  items (more t (more rest us)) = canonical t ++ further_items rest
 
--- what is put behind a whole term
-unfoldable pub behind : List ℕ → List ℕ
-behind [] = []
-behind (left ∷ counts) = if nat_lt 1 left then codes "," else codes ")" ++ behind counts
-
--- what is open behind it
-unfoldable pub counts_behind : List ℕ → List ℕ
-counts_behind [] = []
-counts_behind (left ∷ counts) = if nat_lt 1 left then (left - 1) ∷ counts else counts_behind counts
-
--- what is put at a node
-abbrev pub node_text : List ℕ → Node → List ℕ
-node_text counts (Var n) = codes "_" ++ decimal (n + 1) ++ behind counts
-node_text counts (Int z) = signed_decimal z ++ behind counts
-node_text counts (Atom name) = quoted name ++ behind counts
-node_text counts (Functor name arity) = functor_text name ++ codes "("
-
--- what is open after it
-abbrev pub counts_after : List ℕ → Node → List ℕ
-counts_after counts (Var n) = counts_behind counts
-counts_after counts (Int z) = counts_behind counts
-counts_after counts (Atom name) = counts_behind counts
-counts_after counts (Functor name arity) = arity ∷ counts
+  -- behind an element: a comma and further elements, nothing at the list's end, or a bar and what else the list ends with
+  pub further_items : Tree → List ℕ
+  further_items (variable n) = codes "|" ++ codes "_" ++ decimal (n + 1)
+  further_items (integer z) = codes "|" ++ signed_decimal z
+  further_items (atom name) = if is_nil name then [] else codes "|" ++ quoted name
+  further_items (compound name ts) = if is_cell name (count ts) then codes "," ++ items ts else codes "|" ++ around name (count ts) (arguments ts)

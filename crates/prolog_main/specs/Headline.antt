@@ -1,16 +1,16 @@
 -- What each status of the program means.
 use Rattle.std.specs.Prelude.{◌≡◌, ◌≢◌, ◌⊎◌, ℕ, ◌<◌, ◌≤◌, Bool, true, false, nat_lt, List, ◌++◌, length, Option, Some, None, IsSome, IsNone}
 use Rattle.std.specs.Io.KnownBytes.{Appends, Consumes, IsAtEnd}
-use Rattle.prolog_terms.specs.Tree.{Tree}
 use Rattle.journal_base.specs.Journal.{Journal}
 use Rattle.journal_base.specs.declared.sizes.Sizes.{Sizes}
 use Rattle.wam_machine.specs.declared.run.Run.{Run}
 use Rattle.prolog_main.specs.WholeText.{max_text}
 use Rattle.prolog_main.specs.Sinks.{AppendsPrefix}
+use Rattle.prolog_main.specs.declared.words.Command.{Command}
 use Rattle.prolog_main.specs.declared.refusal.Refusal.{Refusal}
 use Rattle.prolog_main.specs.Load.{journal_of, load_runs_of, refusal_of}
 use Rattle.prolog_main.specs.Errors.{bad_words_text, source_text, too_long_text, refusal_text}
-use Rattle.prolog_main.specs.Runs.{step_budget, AreRunsBehind, status_of}
+use Rattle.prolog_main.specs.Runs.{AreRunsBehind, status_of}
 use Rattle.prolog_main.specs.Output.{load_text, output_of}
 
 -- ---- statuses
@@ -42,9 +42,9 @@ expected_of false (Some refusal) runs = 3
 expected_of false None runs = status_of runs
 
 -- the status for this command and text, where neither source nor sink fails and memory suffices
-abbrev pub expected : Option (Option Tree) → List ℕ → List Run → ℕ
+abbrev pub expected : Option Command → List ℕ → List Run → ℕ
 expected None text runs = 2
-expected (Some goal) text runs = expected_of (nat_lt max_text (length text)) (refusal_of text) runs
+expected (Some c) text runs = expected_of (nat_lt max_text (length text)) (refusal_of text) runs
 
 -- the status is the expected one, unless memory was wanted, the source failed or the sink failed
 abbrev pub Ends : ℕ → Type 0 → Type 0 → ℕ → Type 0
@@ -74,12 +74,12 @@ pub record HasLoaded (sizes : Sizes) (old new : Option (List ℕ)) (journal : Jo
   pub refused_is : refusal_of text ≡ refused
 
 -- A text was loaded whole, and the goal was run: the runs are those of the load, and then those of the command over its journal.
-pub record HasRun (sizes : Sizes) (command : Option (Option Tree)) (old new : Option (List ℕ)) (journal : Journal) (runs : List Run) : Type 0 where
-  pub goal : Option Tree
-  pub goal_is : command ≡ Some goal
+pub record HasRun (sizes : Sizes) (command : Option Command) (old new : Option (List ℕ)) (journal : Journal) (runs : List Run) : Type 0 where
+  pub asked : Command
+  pub asked_is : command ≡ Some asked
   pub loads : List Run
   pub loaded : HasLoaded sizes old new journal loads None
-  pub runs_are : AreRunsBehind step_budget loads goal journal runs
+  pub runs_are : AreRunsBehind loads asked journal runs
 
 -- ---- what was written
 
@@ -95,7 +95,7 @@ pub record HasRefused (sizes : Sizes) (old new : Option (List ℕ)) (journal : J
   pub gains : Gains failed before after (load_text runs ++ refusal_text refusal)
 
 -- what is to be written, by its cause: the words, the source that failed, or what was read
-pub data IsToBeWritten (sizes : Sizes) (command : Option (Option Tree)) (failed : Type 0) (old new : Option (List ℕ)) : List ℕ → Type 0 where
+pub data IsToBeWritten (sizes : Sizes) (command : Option Command) (failed : Type 0) (old new : Option (List ℕ)) : List ℕ → Type 0 where
   of_bad_words : IsNone command → IsToBeWritten sizes command failed old new bad_words_text
   of_source : IsSome command → failed → IsToBeWritten sizes command failed old new source_text
   of_too_long : IsSome command → IsTooLong old new → IsToBeWritten sizes command failed old new too_long_text
@@ -105,7 +105,7 @@ pub data IsToBeWritten (sizes : Sizes) (command : Option (Option Tree)) (failed 
       → IsToBeWritten sizes command failed old new (output_of runs)
 
 -- the sink gained a prefix of what is to be written
-pub record HasBegun (sizes : Sizes) (command : Option (Option Tree)) (failed : Type 0) (old new before after : Option (List ℕ)) : Type 0 where
+pub record HasBegun (sizes : Sizes) (command : Option Command) (failed : Type 0) (old new before after : Option (List ℕ)) : Type 0 where
   pub text : List ℕ
   pub cause : IsToBeWritten sizes command failed old new text
   pub prefix : AppendsPrefix before after text

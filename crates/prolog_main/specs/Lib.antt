@@ -12,6 +12,7 @@ pub mod Words
 pub mod Runs
 pub mod Errors
 pub mod Canonical
+pub mod Frames
 pub mod Output
 pub mod Headline
 pub mod Prepared

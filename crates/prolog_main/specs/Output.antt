@@ -2,29 +2,59 @@
 use Rattle.std.specs.Prelude.{ℕ, ◌+◌, List, [], ◌∷◌, ◌++◌, Bool, true, false, not, ◌==◌, filter, codes, if◌then◌else◌}
 use Rattle.std.specs.List.{flat_map}
 use Rattle.std.specs.Fmt.{decimal}
+use Rattle.prolog_terms.specs.Tree.{Tree, Trees, variable, integer, atom, compound, none, more}
+use Rattle.prolog_terms.specs.declared.shown.Shown.{Shown}
 use Rattle.wam_machine.specs.declared.run.Event.{Event}
 use Rattle.wam_machine.specs.declared.run.Event.TheVariants.{Answer}
 use Rattle.wam_machine.specs.declared.run.Run.{Run}
 use Rattle.wam_machine.specs.declared.run.RunEnd.{RunEnd}
 use Rattle.wam_machine.specs.declared.run.RunEnd.TheVariants.{Exhausted, Ball, Spent, Want}
-use Rattle.prolog_main.specs.Canonical.{canonical}
+use Rattle.prolog_main.specs.Canonical.{canonical, is_cell}
 
 -- the end of a line
 abbrev pub newline : List ℕ
 newline = 10 ∷ []
 
--- the text of an event: an answer is a line, which says whether a choice point is left
-abbrev pub event_text : Event → List ℕ
-event_text (Answer true) = codes "true ;" ++ newline
-event_text (Answer false) = codes "true." ++ newline
+-- ---- answers
+
+-- the elements of a list, up to its end
+abbrev pub elements : Tree → List Tree
+elements (compound f (more t (more rest none))) = if is_cell f 2 then t ∷ elements rest else []
+elements t = []
+
+-- a variable and its value
+abbrev pub value_text : Shown → Tree → List ℕ
+value_text s v = s.name ++ codes " = " ++ canonical v
+
+-- each further variable and its value, behind a comma
+abbrev pub further_text : List Shown → List Tree → List ℕ
+further_text (s ∷ ss) (v ∷ vs) = codes ", " ++ value_text s v ++ further_text ss vs
+further_text ss vs = []
+
+-- the shown variables, each with its value, or `true` where none is shown
+abbrev pub values_text : List Shown → List Tree → List ℕ
+values_text [] vs = codes "true"
+values_text (s ∷ ss) [] = []
+values_text (s ∷ ss) (v ∷ vs) = value_text s v ++ further_text ss vs
+
+-- whether an answer is open: a choice point is left
+abbrev pub mark : Bool → List ℕ
+mark true = codes " ;"
+mark false = codes "."
+
+-- the text of an event: an answer is a line of the shown variables' values, of which it has the list
+unfoldable pub event_text : List Shown → Event → List ℕ
+event_text shown (Answer values left) = values_text shown (elements values) ++ mark left ++ newline
 
 -- the text of each event in order
-unfoldable pub events_text : List Event → List ℕ
-events_text events = flat_map event_text events
+unfoldable pub events_text : List Shown → List Event → List ℕ
+events_text shown events = flat_map (event_text shown) events
+
+-- ---- ends
 
 -- whether it is an answer that leaves no choice point
 abbrev pub closes : Event → Bool
-closes (Answer left) = not left
+closes (Answer values left) = not left
 
 -- whether the last event is such an answer
 abbrev pub is_closed : List Event → Bool
@@ -60,7 +90,7 @@ load_text runs = flat_map load_run_text (filter is_of_load runs)
 
 -- the text of the run of the goal with this number
 unfoldable pub run_text : ℕ → Run → List ℕ
-run_text i run = codes "% goal " ++ decimal i ++ newline ++ events_text run.transcript ++ end_text run.transcript run.end
+run_text i run = codes "% goal " ++ decimal i ++ newline ++ events_text run.shown run.transcript ++ end_text run.transcript run.end
 
 -- the texts of the runs of the goals from this number on
 unfoldable pub runs_text : ℕ → List Run → List ℕ

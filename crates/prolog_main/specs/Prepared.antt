@@ -1,7 +1,7 @@
 -- Where the program stands before it writes.
 use Rattle.std.specs.Prelude.{ℕ, List, ◌++◌, Option, Some, IsSome, IsNone}
 use Rattle.std.specs.Io.KnownBytes.{Keeps}
-use Rattle.prolog_terms.specs.Tree.{Tree}
+use Rattle.prolog_main.specs.declared.words.Command.{Command}
 use Rattle.journal_base.specs.declared.sizes.Sizes.{Sizes}
 use Rattle.prolog_main.specs.declared.prepare.Prepared.{Prepared}
 use Rattle.prolog_main.specs.declared.prepare.Prepared.TheVariants.{BadWords, SourceFailed, TooLong, Refused, Ran}
@@ -10,7 +10,7 @@ use Rattle.prolog_main.specs.Runs.{status_of}
 use Rattle.prolog_main.specs.Output.{load_text, output_of}
 use Rattle.prolog_main.specs.Headline.{IsTooLong, HasLoaded, HasRun}
 
-abbrev pub Prepares : Sizes → Option (Option Tree) → Option (List ℕ) → Option (List ℕ) → Prepared → Type 0
+abbrev pub Prepares : Sizes → Option Command → Option (List ℕ) → Option (List ℕ) → Prepared → Type 0
 Prepares sizes command old new BadWords = IsNone command × Keeps old new
 Prepares sizes command old new SourceFailed = IsSome command
 Prepares sizes command old new TooLong = IsSome command × IsTooLong old new

@@ -1,4 +1,5 @@
--- The procedures that a text may not define: control constructs and builtins (docs/LANGUAGE.md, "Programs").
+-- The procedures that a text may not define: control constructs and builtins; and the terms that are no clauses (docs/LANGUAGE.md,
+-- "Programs").
 use Rattle.std.specs.Prelude.{ℕ, List, [], ◌∷◌, ◌||◌, Bool, codes}
 use Rattle.std.specs.List.{list_any}
 use Rattle.prolog_terms.specs.declared.entry.Indicator.{Indicator}
@@ -49,6 +50,24 @@ named arity name = record { name = name; arity = arity }
 -- the indicator stands in one of these rows
 abbrev pub is_in : List Row → Indicator → Bool
 is_in rows i = list_any (λ row. list_any (λ name. same_indicator i (named row.0 name)) row.1) rows
+
+-- ---- terms that are no clauses
+
+-- a directive or a query of a text, which is no goal either
+unfoldable pub directives : List Row
+directives = (1, codes ":-" ∷ codes "?-" ∷ []) ∷ []
+
+-- a grammar rule
+unfoldable pub grammar_rules : List Row
+grammar_rules = (2, codes "-->" ∷ []) ∷ []
+
+abbrev pub is_directive : Indicator → Bool
+is_directive i = is_in directives i
+
+abbrev pub is_grammar_rule : Indicator → Bool
+is_grammar_rule i = is_in grammar_rules i
+
+-- ---- heads that no clause may have
 
 -- the indicator is that of a control construct or of a builtin
 unfoldable pub is_reserved : Indicator → Bool

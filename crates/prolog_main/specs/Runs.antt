@@ -1,41 +1,40 @@
 -- The runs of a command, and the status that they give.
 use Rattle.std.specs.Prelude.{◌≡◌, ◌≢◌, ℕ, ◌≤◌, Bool, true, false, IsTrue, List, [], ◌∷◌, ◌++◌, length, Option, Some, None, if◌then◌else◌}
 use Rattle.std.specs.List.{list_any}
-use Rattle.prolog_terms.specs.Tree.{Tree}
 use Rattle.journal_base.specs.Journal.{Journal}
+use Rattle.wam_machine.specs.Machine.{shown_list}
 use Rattle.wam_machine.specs.Runs.{IsTranscribed}
+use Rattle.wam_machine.specs.declared.run.Goal.{Goal}
 use Rattle.wam_machine.specs.declared.run.Run.{Run}
 use Rattle.wam_machine.specs.declared.run.RunEnd.{RunEnd}
 use Rattle.wam_machine.specs.declared.run.RunEnd.TheVariants.{Exhausted, Ball, Spent, Want}
-
--- the most steps of a run
-abbrev pub step_budget : ℕ
-step_budget = 10_000_000
+use Rattle.prolog_main.specs.declared.words.Command.{Command}
 
 -- These are one run, of the goal over the journal by engine 1 within the budget, for which memory sufficed. Each of its looks is a
 -- scan, since the base has no indexes.
-pub record IsOneRun (goal : Tree) (J : Journal) (budget : ℕ) (runs : List Run) : Type 0 where
+pub record IsOneRun (goal : Goal) (J : Journal) (budget : ℕ) (runs : List Run) : Type 0 where
   pub run : Run
   pub only : runs ≡ run ∷ []
   pub engine : run.engine ≡ 1
   pub line : run.line ≡ 0
+  pub shown : run.shown ≡ goal.shown
   pub within : run.steps ≤ budget
   pub ended : run.end ≢ Want
-  pub transcribed : IsTranscribed (record { engine = 1; journal = J; start = length J; budget = budget }) (0 ∷ []) goal run
+  pub transcribed : IsTranscribed (record { engine = 1; journal = J; start = length J; budget = budget; shown = shown_list goal.shown }) (0 ∷ []) goal.term run
 
--- the runs of a command over a journal, within a budget: that of its goal, if it has one
-abbrev pub AreRunsWithin : ℕ → Option Tree → Journal → List Run → Type 0
+-- the runs of a command over a journal: that of its goal within its budget, if it has one
+abbrev pub AreRunsWithin : ℕ → Option Goal → Journal → List Run → Type 0
 AreRunsWithin budget None J runs = runs ≡ []
 AreRunsWithin budget (Some goal) J runs = IsOneRun goal J budget runs
 
-abbrev pub AreRuns : Option Tree → Journal → List Run → Type 0
-AreRuns = AreRunsWithin step_budget
+abbrev pub AreRuns : Command → Journal → List Run → Type 0
+AreRuns command = AreRunsWithin command.steps command.goal
 
 -- first these runs of a load, and then those of a command over its journal
-pub record AreRunsBehind (budget : ℕ) (loads : List Run) (command : Option Tree) (J : Journal) (runs : List Run) : Type 0 where
+pub record AreRunsBehind (loads : List Run) (command : Command) (J : Journal) (runs : List Run) : Type 0 where
   pub goals : List Run
   pub in_order : runs ≡ loads ++ goals
-  pub of_command : AreRunsWithin budget command J goals
+  pub of_command : AreRuns command J goals
 
 abbrev pub is_ball : RunEnd → Bool
 is_ball Exhausted = false

@@ -1,13 +1,14 @@
 // The canonical text of a term.
-ghost use Rattle.std.specs.Prelude.{◌≡◌, ◌<◌, ◌++◌, ◌∷◌, [], OnOk, IfNone, IfSome};
+ghost use Rattle.std.specs.Prelude.{◌≡◌, ◌<◌, ◌≤◌, ◌++◌, ◌∷◌, [], OnOk, IfOk, drop, length};
 ghost use Rattle.std.specs.List.{flat_map, list_all};
 ghost use Rattle.std.specs.Fmt.{decimal, signed_decimal};
-ghost use Rattle.prolog_main.specs.Canonical.{canonical, quoted, functor_text, in_quotes, escaped, hex_digit, behind, counts_behind, node_text, counts_after, is_small, is_alphanumeric, is_symbol, is_word, same_text, is_reserved, is_symbolic, is_brackets, is_solo};
+ghost use Rattle.prolog_main.specs.Canonical.{canonical, quoted, functor_text, in_quotes, escaped, hex_digit, is_small, is_alphanumeric, is_symbol, is_word, same_text, is_reserved, is_symbolic, is_brackets, is_solo};
+ghost use Rattle.prolog_main.specs.Frames.{behind, frames_behind, opening, opened, plain_text, plain_frames, rest_text, rest_frames, node_text, frames_after, walk};
 
+use crate::frames::{Frame, Frames, begins_cell, ends_list, is_braced, is_cell};
 use itoa::Buffer;
-use prolog_terms::{Node, Term, Want, Whole};
+use prolog_terms::{Name, Node, Term, Want, Whole};
 use std::alloc::Global;
-use std::marker::Model;
 
 /// Puts words at the end of a text, whose bytes before stay as they are.
 pub fn put(text: &mut Vec<u8>, words: &str) -> Result<(), Want>
@@ -173,64 +174,50 @@ fn put_functor(text: &mut Vec<u8>, name: &[u8]) -> Result<(), Want>
     }
 }
 
-// How many arguments are still to come in each open compound; the innermost is the last in the Vec and the first
-// in contracts.
-#[derive(Drop)]
-struct Counts {
-    stack: Vec<u32>,
-}
-
-impl Model for Counts {
-    ghost use Rattle.std.specs.Prelude.{ℕ, List, reverse};
-
-    ghost Value = { List ℕ };
-
-    ghost view = { λ c. reverse c.stack.items };
-}
-
-impl Counts {
-    fn new(alloc: Global) -> Counts
-        ensures { result ≡ [] }
-    {
-        Counts {
-            stack: Vec::new(alloc),
-        }
-    }
-
-    fn push(&mut self, count: u32) -> Result<(), Want>
-        ensures { OnOk result (self.new ≡ count ∷ self.old) }
-    {
-        self.stack.push(count)?;
-        Ok(())
-    }
-
-    fn pop(&mut self) -> Option<u32>
-        ensures none { IfNone result ((self.old ≡ []) × (self.new ≡ [])) }
-        ensures some { IfSome result (λ count. self.old ≡ count ∷ self.new) }
-    {
-        self.stack.pop()
-    }
-}
-
 // Puts what stands behind a whole term: the brackets that it closes, and a comma where an argument follows.
-#[tactic(auto, unfolding(crate::specs::Canonical::behind, crate::specs::Canonical::counts_behind))]
-fn put_behind(text: &mut Vec<u8>, counts: &mut Counts) -> Result<(), Want>
-    ensures text { OnOk result (text.new.items ≡ text.old.items ++ behind counts.old) }
-    ensures counts { OnOk result (counts.new ≡ counts_behind counts.old) }
+#[tactic(auto, unfolding(crate::specs::Frames::behind, crate::specs::Frames::frames_behind))]
+fn put_behind(text: &mut Vec<u8>, frames: &mut Frames) -> Result<(), Want>
+    ensures text { OnOk result (text.new.items ≡ text.old.items ++ behind frames.old) }
+    ensures frames { OnOk result (frames.new ≡ frames_behind frames.old) }
 {
-    while let Some(left) = counts.pop() {
-        if left > 1 {
-            put(text, ",")?;
-            return counts.push(left - 1);
+    while let Some(frame) = frames.pop() {
+        match frame {
+            Frame::InArguments(left) => {
+                if left > 1 {
+                    put(text, ",")?;
+                    return frames.push(Frame::InArguments(left - 1));
+                }
+                put(text, ")")?;
+            }
+            Frame::InBraces => put(text, "}")?,
+            Frame::InElement => return frames.push(Frame::InTail),
+            Frame::InTail => put(text, "]")?,
         }
-        put(text, ")")?;
     }
     Ok(())
 }
 
-fn put_node(text: &mut Vec<u8>, counts: &mut Counts, node: &Node) -> Result<(), Want>
-    ensures text { OnOk result (text.new.items ≡ text.old.items ++ node_text counts.old node.now) }
-    ensures counts { OnOk result (counts.new ≡ counts_after counts.old node.now) }
+// Puts what stands before the arguments of a compound.
+fn put_opening(text: &mut Vec<u8>, frames: &mut Frames, name: &Name, arity: u32) -> Result<(), Want>
+    ensures text { OnOk result (text.new.items ≡ text.old.items ++ opening name.now arity) }
+    ensures frames { OnOk result (frames.new ≡ opened name.now arity ∷ frames.old) }
+{
+    if is_cell(name, arity) {
+        put(text, "[")?;
+        frames.push(Frame::InElement)
+    } else if is_braced(name, arity) {
+        put(text, "{")?;
+        frames.push(Frame::InBraces)
+    } else {
+        put_functor(text, name.bytes())?;
+        put(text, "(")?;
+        frames.push(Frame::InArguments(arity))
+    }
+}
+
+fn put_plain(text: &mut Vec<u8>, frames: &mut Frames, node: &Node) -> Result<(), Want>
+    ensures text { OnOk result (text.new.items ≡ text.old.items ++ plain_text frames.old node.now) }
+    ensures frames { OnOk result (frames.new ≡ plain_frames frames.old node.now) }
 {
     match node {
         Node::Var(number) => {
@@ -239,23 +226,63 @@ fn put_node(text: &mut Vec<u8>, counts: &mut Counts, node: &Node) -> Result<(), 
         }
         Node::Int(whole) => put_whole(text, *whole)?,
         Node::Atom(name) => put_quoted(text, name.bytes())?,
-        Node::Functor(name, arity) => {
-            put_functor(text, name.bytes())?;
-            put(text, "(")?;
-            return counts.push(*arity);
-        }
+        Node::Functor(name, arity) => return put_opening(text, frames, name, *arity),
     }
-    put_behind(text, counts)
+    put_behind(text, frames)
 }
 
-/// Puts the canonical text of a term at the end of a text: every compound as its name and its arguments in brackets,
-/// whatever operators there are, and names in quotes where they need them. No depth of the term is too great.
+// Behind an element of a list.
+fn put_rest(text: &mut Vec<u8>, frames: &mut Frames, node: &Node) -> Result<(), Want>
+    ensures text { OnOk result (text.new.items ≡ text.old.items ++ rest_text frames.old node.now) }
+    ensures frames { OnOk result (frames.new ≡ rest_frames frames.old node.now) }
+{
+    if begins_cell(node) {
+        put(text, ",")?;
+        return frames.next_element();
+    }
+    if ends_list(node) {
+        return put_behind(text, frames);
+    }
+    put(text, "|")?;
+    put_plain(text, frames, node)
+}
+
+fn put_node(text: &mut Vec<u8>, frames: &mut Frames, node: &Node) -> Result<(), Want>
+    ensures text { OnOk result (text.new.items ≡ text.old.items ++ node_text frames.old node.now) }
+    ensures frames { OnOk result (frames.new ≡ frames_after frames.old node.now) }
+{
+    if frames.is_in_tail() {
+        put_rest(text, frames, node)
+    } else {
+        put_plain(text, frames, node)
+    }
+}
+
+/// Puts the canonical text of the term at the front of these nodes at the end of a text, and answers how many nodes the
+/// term has.
+pub fn put_front(text: &mut Vec<u8>, alloc: Global, nodes: &[Node]) -> Result<usize, Want>
+    ensures text { OnOk result (text.new.items ≡ text.old.items ++ (walk [] nodes.now).text) }
+    ensures left { IfOk result (λ n. drop n nodes.now ≡ (walk [] nodes.now).left) }
+    ensures within { IfOk result (λ n. n ≤ length nodes.now) }
+{
+    let mut frames = Frames::new(alloc);
+    let mut count = 0;
+    for node in nodes {
+        put_node(text, &mut frames, node)?;
+        count += 1;
+        if frames.is_empty() {
+            return Ok(count);
+        }
+    }
+    Ok(count)
+}
+
+/// Puts the canonical text of a term at the end of a text: lists in brackets, `{}` of one argument in braces, and every
+/// other compound as its name and its arguments in brackets, whatever operators there are; names in quotes where they need
+/// them. No depth of the term is too great.
 pub fn put_term(text: &mut Vec<u8>, alloc: Global, term: &Term) -> Result<(), Want>
     ensures { OnOk result (text.new.items ≡ text.old.items ++ canonical term.now) }
 {
-    let mut counts = Counts::new(alloc);
-    for node in term.nodes() {
-        put_node(text, &mut counts, node)?;
-    }
+    put_front(text, alloc, term.nodes())?;
     Ok(())
 }

@@ -1,20 +1,21 @@
 // The load of a text.
-ghost use Rattle.std.specs.Prelude.{◌≡◌, ◌++◌, Some, IfOk, OnOk, codes};
-ghost use Rattle.prolog_terms.specs.Tree.{atom};
-ghost use Rattle.prolog_terms.specs.Variables.{AreNumbered};
+ghost use Rattle.std.specs.Prelude.{◌≡◌, ◌++◌, Some, IfOk, OnOk};
+ghost use Rattle.prolog_terms.specs.Clauses.{IsClause};
 ghost use Rattle.prolog_terms.specs.Indicators.{indicator_of};
 ghost use Rattle.prolog_terms.specs.Operators.{initial_operators};
 ghost use Rattle.journal_base.specs.View.{AreSizes};
 ghost use Rattle.prolog_main.specs.Load as the_load;
 ghost use Rattle.prolog_main.specs.Load.{journal_of, load_runs_of, refusal_of};
-ghost use Rattle.prolog_main.specs.Bases.{HasProcedure, HasFact};
+ghost use Rattle.prolog_main.specs.Bases.{HasProcedure, HasClause};
 
 use crate::Runs;
 use crate::part::{Part, next_part};
 use crate::refusal::Refusal;
 use journal_base::{Added, Base, Declared, PlainBase, Sizes, Tally};
-use prolog_reader::Lexer;
-use prolog_terms::{Clause, End, Fault, Indicator, Kind, Name, Node, Ops, Term, Want, fault_term};
+use prolog_lexer::Lexer;
+use prolog_terms::{
+    Clause, End, Fault, Indicator, Kind, Name, Ops, ShownVariables, Want, fault_term,
+};
 use std::alloc::Global;
 use std::sync::Wait;
 use wam_machine::{Events, Fronts, Run, RunEnd};
@@ -29,18 +30,6 @@ pub struct Load {
     pub base: PlainBase,
     pub runs: Runs,
     pub refused: Option<Refusal>,
-}
-
-/// The term `true`.
-fn true_term(alloc: Global) -> Result<Term, Want>
-    ensures { IfOk result (λ t. t ≡ atom (codes "true")) }
-{
-    let mut nodes = Vec::new(alloc);
-    nodes.push(Node::Atom(Name::of(alloc, b"true")?))?;
-    match Term::of_nodes(nodes) {
-        Ok(term) => Ok(term),
-        Err(_) => unreachable!(),
-    }
 }
 
 /// The number of a procedure, which is declared if it isn't yet; none where there is no room for that.
@@ -63,37 +52,30 @@ fn procedure<R: Wait>(
     }
 }
 
-/// Adds a fact behind those of its procedure. The answer says whether there was room for it.
-fn add_fact<R: Wait>(
+/// Adds a clause behind those of its procedure. The answer says whether there was room for it.
+fn add_clause<R: Wait>(
     rt: &R,
-    alloc: Global,
     base: &mut PlainBase,
     indicator: &Indicator,
-    head: Term,
+    clause: &Clause,
 ) -> Result<bool, Want>
     requires load { base.old.number ≡ 0 }
-    requires indicator { indicator_of head ≡ Some indicator.now }
-    requires numbered { AreNumbered head (atom (codes "true")) 0 }
-    ensures { IfOk result (HasFact base.old base.new indicator.now head) }
+    requires indicator { indicator_of clause.now.head ≡ Some indicator.now }
+    requires clause { IsClause clause.now }
+    ensures { IfOk result (HasClause base.old base.new indicator.now clause.now) }
 {
-    let body = true_term(alloc)?;
     let procedure = match procedure(rt, base, indicator)? {
         Some(procedure) => procedure,
         None => return Ok(false),
     };
-    let clause = Clause {
-        head,
-        body,
-        vars: 0,
-    };
-    match base.add(rt, End::Back, procedure, &clause) {
+    match base.add(rt, End::Back, procedure, clause) {
         Added::Done(_) => Ok(true),
         Added::Full { .. } => Ok(false),
         Added::Want => Err(Want),
     }
 }
 
-/// The run of a fact in this line for which there is no room: the error that `assertz/1` raises.
+/// The run of a clause in this line for which there is no room: the error that `assertz/1` raises.
 #[tactic(auto, unfolding(crate::specs::Load::unplaced))]
 fn unplaced(alloc: Global, line: u64) -> Result<Run, Want>
     ensures { IfOk result (λ run. run ≡ the_load.unplaced line) }
@@ -107,6 +89,7 @@ fn unplaced(alloc: Global, line: u64) -> Result<Run, Want>
     Ok(Run {
         engine: LOADER,
         line,
+        shown: ShownVariables::new(alloc),
         transcript: Events::of(Vec::new(alloc)),
         fronts: Fronts::of(Vec::new(alloc)),
         tally: Tally::new(),
@@ -115,7 +98,7 @@ fn unplaced(alloc: Global, line: u64) -> Result<Run, Want>
     })
 }
 
-/// Adds a run of a fact in this line, unless there was room for it.
+/// Adds a run of a clause in this line, unless there was room for it.
 fn add_run(alloc: Global, runs: &mut Runs, fits: bool, line: u64) -> Result<(), Want>
     ensures { OnOk result (runs.new ≡ runs.old ++ the_load.run_unless fits line) }
 {
@@ -125,8 +108,8 @@ fn add_run(alloc: Global, runs: &mut Runs, fits: bool, line: u64) -> Result<(), 
     runs.push(unplaced(alloc, line)?)
 }
 
-/// Adds the facts of a text, to a base of these sizes, up to the first read-term that is refused. A fact for which there is
-/// no room has a run, and the load goes on.
+/// Adds the clauses of a text, to a base of these sizes, up to the first read-term that is refused. A clause for which there
+/// is no room has a run, and the load goes on.
 #[tactic(auto, unfolding(crate::specs::Load::load_of, crate::specs::Load::refusal_of))]
 pub fn load_text<R: Wait>(
     rt: &R,
@@ -146,8 +129,8 @@ pub fn load_text<R: Wait>(
     let mut runs = Runs::new(alloc);
     'parts: loop {
         match next_part(alloc, &mut lexer, ops)? {
-            Part::Fact(line, indicator, head) => {
-                let fits = add_fact(rt, alloc, &mut base, &indicator, head)?;
+            Part::Clause(line, indicator, clause) => {
+                let fits = add_clause(rt, &mut base, &indicator, &clause)?;
                 add_run(alloc, &mut runs, fits, line)?;
             }
             Part::Refused(refusal) => {

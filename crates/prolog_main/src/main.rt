@@ -1,4 +1,4 @@
-//! `prolog [GOAL]`: reads a text of facts on standard input, runs one goal over them and writes its answers.
+//! `prolog [--steps N] [GOAL]`: reads a text of clauses on standard input, runs one goal over them and writes its answers.
 //!
 //! `session::top` is the whole program over any source and any sink; its clauses say what each status means, what the
 //! sink gains and what is left of the source. `main` calls it with standard input and output.
@@ -9,6 +9,7 @@ ghost use Rattle.std.specs.Process.{exit_status};
 
 mod canonical;
 mod finish;
+mod frames;
 mod load;
 mod memory;
 mod part;

@@ -7,9 +7,9 @@ ghost use Rattle.prolog_main.specs.Prepared.{Prepares, status_before, text_befor
 
 use crate::load::load_text;
 use crate::refusal::{Refusal, text_of};
-use crate::run::{STEP_BUDGET, run_command, status_of_runs};
+use crate::run::{run_command, status_of_runs};
 use crate::texts::{output, refused_text};
-use crate::words::command;
+use crate::words::read_command;
 use crate::{Runs, Source, Text, read_all};
 use journal_base::{Gate, Sizes};
 use prolog_terms::{Entries, Ops, Want};
@@ -41,7 +41,7 @@ pub fn prepare<R: Wait, S: Source, G: Gate>(
     ensures failed { IfOk result (λ p. p ≡ Prepared.SourceFailed → Rose (S.faults source.old) (S.faults source.new)) }
 {
     let ops = Ops::initial(alloc)?;
-    let command = match command(alloc, &ops, words)? {
+    let command = match read_command(alloc, &ops, words)? {
         Some(command) => command,
         None => return Ok(Prepared::BadWords),
     };
@@ -55,7 +55,7 @@ pub fn prepare<R: Wait, S: Source, G: Gate>(
     if let Some(refusal) = load.refused {
         return Ok(Prepared::Refused(load.base.into_entries(), load.runs, refusal));
     }
-    let ran = run_command(rt, alloc, gate, command, STEP_BUDGET, load, ops)?;
+    let ran = run_command(rt, alloc, gate, command, load, ops)?;
     Ok(Prepared::Ran(ran.journal, ran.runs))
 }
 

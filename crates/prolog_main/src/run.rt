@@ -1,22 +1,20 @@
 // The run of a command's goal, and the status that runs give.
-ghost use Rattle.std.specs.Prelude.{◌≡◌, ◌≤◌, ◌^◌, ◌↔◌, IfOk, IfSome, IsTrue};
+ghost use Rattle.std.specs.Prelude.{◌≡◌, ◌↔◌, IfOk, IsTrue};
 ghost use Rattle.std.specs.List.{list_any};
-ghost use Rattle.prolog_main.specs.Words.{IsCallable};
+ghost use Rattle.prolog_main.specs.Words.{IsReady};
 ghost use Rattle.prolog_main.specs.Runs.{AreRunsBehind, ends_in_ball, ends_spent, status_of};
 
 use crate::load::Load;
 use crate::runs::Runs;
+use crate::words::Command;
 use journal_base::{Gate, PlainBase};
-use prolog_terms::{Entries, Ops, Term, Want};
+use prolog_terms::{Entries, Ops, Want};
 use std::alloc::Global;
 use std::sync::Wait;
-use wam_machine::{Engine, Goal, Run, RunEnd};
+use wam_machine::{Engine, Run, RunEnd};
 
 /// The engine of the first goal.
 const FIRST: u32 = 1;
-
-/// The most steps of a run.
-pub const STEP_BUDGET: u64 = 10_000_000;
 
 /// The journal of a load, and its runs with that of the command's goal behind them.
 #[derive(Drop)]
@@ -25,29 +23,28 @@ pub struct Ran {
     pub runs: Runs,
 }
 
-/// Runs the command's goal over the journal of a load, if it has one, in so many steps at most.
+/// Runs the command's goal over the journal of a load, if it has one, in as many steps at most as the command gives.
 pub fn run_command<R: Wait, G: Gate>(
     rt: &R,
     alloc: Global,
     gate: &G,
-    command: Option<Term>,
-    budget: u64,
+    command: Command,
     load: Load,
     ops: Ops,
 ) -> Result<Ran, Want>
-    requires goal { IfSome command IsCallable }
-    requires budget { (1 ≤ budget) × (budget ≤ 10 ^ 11) }
+    requires ready { IsReady command }
     requires out { load.base.out ≡ 0 }
     ensures journal { IfOk result (λ ran. ran.journal ≡ load.base.entries) }
-    ensures runs { IfOk result (λ ran. AreRunsBehind budget load.runs command load.base.entries ran.runs) }
+    ensures runs { IfOk result (λ ran. AreRunsBehind load.runs command load.base.entries ran.runs) }
 {
     let Load {
         base,
         mut runs,
         refused: _,
     } = load;
-    let term = match command {
-        Some(term) => term,
+    let Command { steps, goal } = command;
+    let goal = match goal {
+        Some(goal) => goal,
         None => {
             return Ok(Ran {
                 journal: base.into_entries(),
@@ -59,7 +56,7 @@ pub fn run_command<R: Wait, G: Gate>(
         Ok(engine) => engine,
         Err(_) => return Err(Want),
     };
-    let run = engine.solve(rt, &Goal { term }, budget, gate);
+    let run = engine.solve(rt, &goal, steps, gate);
     if wants(&run) {
         return Err(Want);
     }

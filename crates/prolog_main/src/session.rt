@@ -7,7 +7,7 @@ ghost use Rattle.prolog_main.specs.WholeText.{max_text};
 ghost use Rattle.prolog_main.specs.Sinks.{AppendsPrefix};
 ghost use Rattle.prolog_main.specs.Load.{journal_of, load_runs_of, refusal_of};
 ghost use Rattle.prolog_main.specs.Words.{command_of};
-ghost use Rattle.prolog_main.specs.Runs.{step_budget, AreRunsBehind, EndsInBall, EndsSpent};
+ghost use Rattle.prolog_main.specs.Runs.{AreRunsBehind, EndsInBall, EndsSpent};
 ghost use Rattle.prolog_main.specs.Errors.{bad_words_text, source_text, too_long_text, refusal_text};
 ghost use Rattle.prolog_main.specs.Output.{load_text, output_of};
 ghost use Rattle.prolog_main.specs.Headline.{IsRun, HasRuns, IsLoaded, IsEmpty, IsStatus, expected, Ends, IsTooLong, HasRun, HasRefused, Gains, HasBegun};
@@ -20,8 +20,8 @@ use std::alloc::Global;
 use std::sync::Wait;
 use std::thread::Threads;
 
-/// Reads the whole source, loads its facts into a base of these sizes, runs the goal of the words and writes the answers. A
-/// fact for which the base has no room has a run of its own, and the load goes on. The status is 0, 1 or 7 after the runs
+/// Reads the whole source, loads its clauses into a base of these sizes, runs the goal of the words and writes the answers. A
+/// clause for which the base has no room has a run of its own, and the load goes on. The status is 0, 1 or 7 after the runs
 /// (1 where one ends in a ball, else 7 where one has spent its budget), and else the number of what went wrong: 2 bad words,
 /// 3 a read-term that is refused, 4 the source failed, 5 the sink failed, 6 memory was wanted, 8 the text is too long.
 pub fn top<R: Threads + Wait + Sync, S: Source, K: Sink, G: Gate + Sync>(
@@ -58,7 +58,7 @@ pub fn top<R: Threads + Wait + Sync, S: Source, K: Sink, G: Gate + Sync>(
         (Rose (K.faults sink.old) (K.faults sink.new)) (K.written sink.old) (K.written sink.new) }
     ensures legal { IsLoaded result.status → Legal sizes.words sizes.updates result.journal }
     ensures runs { HasRuns result.status → IfSome (S.left source.old) (λ text. IfSome (command_of (map string_bytes words.now)) (λ command.
-        AreRunsBehind step_budget (load_runs_of sizes text) command result.journal result.runs)) }
+        AreRunsBehind (load_runs_of sizes text) command result.journal result.runs)) }
     ensures load_runs { result.status ≡ 3 → IfSome (S.left source.old) (λ text. result.runs ≡ load_runs_of sizes text) }
     ensures empty_journal { IsEmpty result.status → result.journal ≡ [] }
     ensures empty_runs { IsEmpty result.status → result.runs ≡ [] }

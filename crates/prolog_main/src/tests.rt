@@ -7,12 +7,13 @@ use crate::reading::MAX_TEXT;
 use crate::run::run_command;
 use crate::session::top;
 use crate::texts::output;
-use crate::words::command;
+use crate::words::read_command;
 use crate::{MemorySink, MemorySource, Sink, Source, SteadySink, SteadySource};
 use journal_base::{Gate, OpenGate, Sizes};
 use prolog_terms::{Ops, Want};
 use std::alloc::Global;
 use std::cell::Cell;
+use std::process::Abort;
 use std::sync::Wait;
 use std::thread::Threads;
 
@@ -28,24 +29,112 @@ const REFUSED: &str = "error: line 1: fault 7.\n";
 
 const BAD_WORDS: &str = "error: bad words.\n";
 
-const REFUSALS: [Row; 14] = [
+// Faults of the reader, each with its line.
+const FAULTS: [Row; 13] = [
+    ("a.\n\n`b.\n", &["true"], 3, "error: line 3: fault 1.\n"),
+    ("a.\n'b\n'.\n", &["true"], 3, "error: line 2: fault 2.\n"),
+    ("a.\n'b\\q'.\n", &["true"], 3, "error: line 2: fault 3.\n"),
+    ("a.\n\n/* b.\n", &["true"], 3, "error: line 3: fault 4.\n"),
+    (
+        "a.\np(9223372036854775809).\n",
+        &["true"],
+        3,
+        "error: line 2: fault 5.\n",
+    ),
+    (
+        "p(-9223372036854775808).\np(9223372036854775808).\n",
+        &["true"],
+        3,
+        "error: line 2: fault 5.\n",
+    ),
     ("a.\nb.\np(a\n", &["true"], 3, "error: line 3: fault 6.\n"),
+    ("p(a b).\n", &["true"], 3, REFUSED),
+    ("a.\n\n.\n", &["true"], 3, "error: line 3: fault 7.\n"),
+    ("p(,a).\n", &["true"], 3, REFUSED),
+    (
+        "a.\np\n:- q :- r.\n",
+        &["true"],
+        3,
+        "error: line 2: fault 8.\n",
+    ),
+    ("[a|b,c].\n", &["true"], 3, "error: line 1: fault 8.\n"),
+    ("a. 'b", &["true"], 3, "error: line 1: fault 2.\n"),
+];
+
+// Terms that are read, and are no clauses that a text may have.
+const NO_CLAUSES: [Row; 22] = [
     ("a.\n\n3.\n", &["true"], 3, "error: line 3: fault 7.\n"),
-    ("p([]).\n", &["true"], 3, REFUSED),
     ("3.\n", &["true"], 3, REFUSED),
+    ("X.\n", &["true"], 3, REFUSED),
+    ("X :- a.\n", &["true"], 3, REFUSED),
+    ("3 :- a.\n", &["true"], 3, REFUSED),
+    (":- p.\n", &["true"], 3, REFUSED),
+    ("?- p.\n", &["true"], 3, REFUSED),
+    ("p --> q.\n", &["true"], 3, REFUSED),
     ("true.\n", &["true"], 3, REFUSED),
     ("write(a).\n", &["true"], 3, REFUSED),
     ("call(a,b,c,d,e,f,g,h).\n", &[], 3, REFUSED),
-    ("", &["--steps", "0"], 2, BAD_WORDS),
+    ("a, b.\n", &["true"], 3, REFUSED),
+    ("X = X.\n", &["true"], 3, REFUSED),
+    ("X = Y :- p(X, Y).\n", &["true"], 3, REFUSED),
+    ("a ; b :- c.\n", &["true"], 3, REFUSED),
+    ("! :- c.\n", &["true"], 3, REFUSED),
+    ("p :- X.\n", &["true"], 3, REFUSED),
+    ("p :- 3.\n", &["true"], 3, REFUSED),
+    ("p(X) :- q(X), X.\n", &["true"], 3, REFUSED),
+    ("p :- q ; 1.\n", &["true"], 3, REFUSED),
+    ("p :- q -> X.\n", &["true"], 3, REFUSED),
+    (
+        "a.\n% b\n\np :-\n    q,\n    7.\n",
+        &["true"],
+        3,
+        "error: line 4: fault 7.\n",
+    ),
+];
+
+const NO_COMMANDS: [Row; 24] = [
     ("", &["a", "b"], 2, BAD_WORDS),
     ("", &[""], 2, BAD_WORDS),
     ("", &["3"], 2, BAD_WORDS),
     ("", &["X"], 2, BAD_WORDS),
     ("", &["p("], 2, BAD_WORDS),
     ("", &["a. b."], 2, BAD_WORDS),
+    ("", &["a. 'b"], 2, BAD_WORDS),
+    ("", &[":- a"], 2, BAD_WORDS),
+    ("", &["?- a"], 2, BAD_WORDS),
+    ("", &["p, X"], 2, BAD_WORDS),
+    ("", &["1, p"], 2, BAD_WORDS),
+    ("", &["p ; 1"], 2, BAD_WORDS),
+    ("", &["X -> p"], 2, BAD_WORDS),
+    ("", &["--steps"], 2, BAD_WORDS),
+    ("", &["--steps", "0"], 2, BAD_WORDS),
+    ("", &["--steps", ""], 2, BAD_WORDS),
+    ("", &["--steps", "a"], 2, BAD_WORDS),
+    ("", &["--steps", "+7", "a"], 2, BAD_WORDS),
+    ("", &["--steps", "7 ", "a"], 2, BAD_WORDS),
+    ("", &["--steps", "100000000001", "a"], 2, BAD_WORDS),
+    ("", &["--steps", "18446744073709551617", "a"], 2, BAD_WORDS),
+    ("", &["--steps", "7", "a", "b"], 2, BAD_WORDS),
+    ("", &["--steps", "7", "--steps", "8"], 2, BAD_WORDS),
+    ("", &["a", "--steps", "7"], 2, BAD_WORDS),
 ];
 
-const RUNS: [Row; 10] = [
+// Texts that are loaded, without a goal.
+const LOADS: [Row; 6] = [
+    ("p(a).\n", &[], 0, ""),
+    ("p([a|T], T). q :- p(X, X), \\+ q.\n", &[], 0, ""),
+    ("p(a).\n", &["--steps", "1"], 0, ""),
+    ("p(a).\n", &["--steps", "007"], 0, ""),
+    ("p(a).\n", &["--steps", "100000000000"], 0, ""),
+    (
+        ":-(:-(a, b), c). (a --> b) :- c. 'p q'(\"r\") :- call(1).\n",
+        &[],
+        0,
+        "",
+    ),
+];
+
+const RUNS: [Row; 25] = [
     ("", &["true"], 0, "% goal 1\ntrue.\n"),
     ("p(a). p(b). p(c).\n", &["p(b)"], 0, "% goal 1\ntrue.\n"),
     ("p(a). p(b). p(c).\n", &["p(b)."], 0, "% goal 1\ntrue.\n"),
@@ -57,7 +146,6 @@ const RUNS: [Row; 10] = [
         0,
         "% goal 1\ntrue.\n",
     ),
-    ("p(a).\n", &[], 0, ""),
     (
         "t(f(g(1))). t(f(g(2))).\n",
         &["t(f(g(1)))"],
@@ -75,6 +163,72 @@ const RUNS: [Row; 10] = [
         &["foo(1)"],
         1,
         "% goal 1\nerror: error(existence_error(procedure,/(foo,1)),/(foo,1)).\n",
+    ),
+    ("p(a). p(b).\n", &["p(X)"], 0, "% goal 1\nX = a ;\nX = b.\n"),
+    ("", &["X = f(X)"], 0, "% goal 1\nfalse.\n"),
+    (
+        ":-(g(X),','(p(X),=(X,b))). p(a). p(b).\n",
+        &["g(X)"],
+        0,
+        "% goal 1\nX = b.\n",
+    ),
+    (
+        "g(X) :- p(X), X = b. p(a). p(b).\n",
+        &["g(X)"],
+        0,
+        "% goal 1\nX = b.\n",
+    ),
+    (
+        "loop :- loop.\n",
+        &["--steps", "10", "loop"],
+        7,
+        "% goal 1\nstopped after 10 steps.\n",
+    ),
+    (
+        "p(a). p(b).\n",
+        &["--steps", "1", "p(X)"],
+        7,
+        "% goal 1\nX = a ;\nstopped after 1 steps.\n",
+    ),
+    ("", &["X = Y"], 0, "% goal 1\nX = _1, Y = _1.\n"),
+    (
+        "p(X, Y, X).\n",
+        &["p(A, B, C)"],
+        0,
+        "% goal 1\nA = _1, B = _2, C = _1.\n",
+    ),
+    ("", &["_X = a"], 0, "% goal 1\ntrue.\n"),
+    ("", &["X = [1,2|T]"], 0, "% goal 1\nX = [1,2|_1], T = _1.\n"),
+    (
+        "",
+        &["X = {a,b}, Y = [[],{}|c]"],
+        0,
+        "% goal 1\nX = {','(a,b)}, Y = [[],{}|c].\n",
+    ),
+    (
+        "",
+        &["X = 'a b', Y = \"ab\""],
+        0,
+        "% goal 1\nX = 'a b', Y = [97,98].\n",
+    ),
+    (
+        "",
+        &["X = - 1, Y = -1, Z = 1 - 2"],
+        0,
+        "% goal 1\nX = -(1), Y = -1, Z = -(1,2).\n",
+    ),
+    ("", &["X = (=..)"], 0, "% goal 1\nX = =...\n"),
+    (
+        "app([], L, L). app([H|T], L, [H|R]) :- app(T, L, R).\n",
+        &["app(X, Y, [a])"],
+        0,
+        "% goal 1\nX = [], Y = [a] ;\nX = [a], Y = [].\n",
+    ),
+    (
+        "p(X) :- q(X).\n",
+        &["p(f(Y))"],
+        1,
+        "% goal 1\nerror: error(existence_error(procedure,/(q,1)),/(q,1)).\n",
     ),
 ];
 
@@ -139,32 +293,62 @@ fn is_answered<R: Threads + Wait + Sync>(
     is_answered_in(rt, alloc, SIZES, row, step)
 }
 
-#[test]
-fn answers_the_refusals(rt: HostRuntime) {
-    for row in &REFUSALS {
+/// Whether each row is answered, where source and sink take from one to three bytes a call.
+fn expect_rows<R: Threads + Wait + Sync + Abort>(rt: &R, alloc: Global, rows: &[Row]) {
+    for row in rows {
         for step in 1..4 {
-            assert_eq!(rt;
-                is_answered(&rt, rt.alloc(), row, step),
-                Ok(true),
-                "{}",
-                row.0
-            );
+            assert_eq!(rt; is_answered(rt, alloc, row, step), Ok(true), "{}", row.0);
         }
     }
 }
 
 #[test]
-fn answers_the_runs(rt: HostRuntime) {
-    for row in &RUNS {
-        for step in 1..4 {
-            assert_eq!(rt;
-                is_answered(&rt, rt.alloc(), row, step),
-                Ok(true),
-                "{}",
-                row.0
-            );
-        }
+fn answers_the_faults(rt: HostRuntime) {
+    expect_rows(&rt, rt.alloc(), &FAULTS);
+}
+
+#[test]
+fn answers_what_is_no_clause(rt: HostRuntime) {
+    expect_rows(&rt, rt.alloc(), &NO_CLAUSES);
+}
+
+#[test]
+fn answers_what_is_no_command(rt: HostRuntime) {
+    expect_rows(&rt, rt.alloc(), &NO_COMMANDS);
+}
+
+#[test]
+fn answers_the_loads(rt: HostRuntime) {
+    expect_rows(&rt, rt.alloc(), &LOADS);
+}
+
+/// A text of one fact of so many arguments.
+fn wide_fact(alloc: Global, arity: u32) -> Result<Vec<u8>, Want> {
+    let mut text = Vec::from_slice(alloc, b"a.\np(0")?;
+    for _ in 1..arity {
+        text.extend_from_slice(b",0")?;
     }
+    text.extend_from_slice(b").\n")?;
+    Ok(text)
+}
+
+#[test]
+fn a_256th_argument_is_refused(rt: HostRuntime) {
+    for (arity, expected, words) in [(255, 0, ""), (256, 3, "error: line 2: fault 9.\n")] {
+        let text = wide_fact(rt.alloc(), arity).expect(&rt, "memory");
+        let mut source = SteadySource::new(text, 4096);
+        let mut sink = SteadySink::new(rt.alloc(), 100).expect(&rt, "memory");
+        assert_eq!(rt;
+            status(&rt, rt.alloc(), &[], &mut source, &mut sink),
+            Ok(expected)
+        );
+        assert!(rt; sink.bytes() == words.as_bytes());
+    }
+}
+
+#[test]
+fn answers_the_runs(rt: HostRuntime) {
+    expect_rows(&rt, rt.alloc(), &RUNS);
 }
 
 // A declaration needs 16 words, and one for a name of up to 8 bytes: 17 for `p/1` and for `q/1`. The fact `p(a)` needs 4
@@ -405,33 +589,33 @@ fn run_within<R: Wait, G: Gate>(
     alloc: Global,
     gate: &G,
     word: &str,
-    budget: u64,
-) -> Result<Vec<u8>, Want>
-    requires { (1 ≤ budget) × (budget ≤ 10 ^ 11) }
-{
+    steps: &str,
+) -> Result<Vec<u8>, Want> {
     let ops = Ops::initial(alloc)?;
     let mut words = Vec::new(alloc);
-    words.push(String::from_str(alloc, word)?)?;
-    let goal = match command(alloc, &ops, &words)? {
-        Some(goal) => goal,
+    for word in ["--steps", steps, word] {
+        words.push(String::from_str(alloc, word)?)?;
+    }
+    let command = match read_command(alloc, &ops, &words)? {
+        Some(command) => command,
         None => return Err(Want),
     };
     let load = load_text(rt, alloc, SIZES, &ops, b"p(a). p(a).")?;
-    let ran = run_command(rt, alloc, gate, goal, budget, load, ops)?;
+    let ran = run_command(rt, alloc, gate, command, load, ops)?;
     output(alloc, ran.runs.items())
 }
 
 #[test]
 fn a_run_spends_its_budget(rt: HostRuntime) {
-    for (budget, text) in [
-        (1, "% goal 1\ntrue ;\nstopped after 1 steps.\n"),
-        (2, "% goal 1\ntrue ;\ntrue.\n"),
-        (3, "% goal 1\ntrue ;\ntrue.\n"),
+    for (steps, text) in [
+        ("1", "% goal 1\ntrue ;\nstopped after 1 steps.\n"),
+        ("2", "% goal 1\ntrue ;\ntrue.\n"),
+        ("003", "% goal 1\ntrue ;\ntrue.\n"),
     ] {
-        let written = run_within(&rt, rt.alloc(), &OpenGate, "p(a)", budget);
+        let written = run_within(&rt, rt.alloc(), &OpenGate, "p(a)", steps);
         assert!(rt;
             matches!(&written, Ok(bytes) if bytes.as_slice() == text.as_bytes()),
-            "budget {budget}"
+            "{steps} steps"
         );
     }
 }
@@ -444,7 +628,7 @@ fn a_look_passes_the_gate(rt: HostRuntime) {
             engine: Cell::new(0),
             look: Cell::new(0),
         };
-        let written = run_within(&rt, rt.alloc(), &gate, word, 10);
+        let written = run_within(&rt, rt.alloc(), &gate, word, "10");
         assert!(rt; written.is_ok());
         assert_eq!(rt; gate.passes.get(), passes, "{word}");
         assert_eq!(rt; gate.look.get(), passes, "{word}");

@@ -3,7 +3,7 @@
 use crate::canonical::put_term;
 use crate::texts::output;
 use journal_base::Tally;
-use prolog_terms::{Name, Node, Term, Want, Whole};
+use prolog_terms::{Name, Node, Shown, ShownVariables, Term, Want, Whole};
 use std::alloc::Global;
 use std::test::Fail;
 use wam_machine::{Event, Events, Fronts, Run, RunEnd};
@@ -111,7 +111,67 @@ fn writes_terms(rt: HostRuntime) -> Result<(), Fail> {
         Piece::Functor("a b", 1),
         Piece::Atom("[]"),
     ];
-    assert!(rt; expect_text(alloc, &brackets, "'[]'('{}'({}),'a b'([]))")?);
+    assert!(rt; expect_text(alloc, &brackets, "'[]'({{}},'a b'([]))")?);
+    Ok(())
+}
+
+#[test]
+fn writes_lists(rt: HostRuntime) -> Result<(), Fail> {
+    let alloc = rt.alloc();
+    let one = [Piece::Functor(".", 2), Piece::Atom("a"), Piece::Atom("[]")];
+    assert!(rt; expect_text(alloc, &one, "[a]")?);
+    let pair = [Piece::Functor(".", 2), Piece::Atom("a"), Piece::Atom("b")];
+    assert!(rt; expect_text(alloc, &pair, "[a|b]")?);
+    let partial = [
+        Piece::Functor(".", 2),
+        Piece::Int(-1),
+        Piece::Functor(".", 2),
+        Piece::Atom("-"),
+        Piece::Var(0),
+    ];
+    assert!(rt; expect_text(alloc, &partial, "[-1,-|_1]")?);
+    let nested = [
+        Piece::Functor(".", 2),
+        Piece::Functor(".", 2),
+        Piece::Atom("[]"),
+        Piece::Atom("[]"),
+        Piece::Functor(".", 2),
+        Piece::Functor("f", 2),
+        Piece::Atom("|"),
+        Piece::Atom(":-"),
+        Piece::Functor("f", 1),
+        Piece::Functor(".", 2),
+        Piece::Int(1),
+        Piece::Int(2),
+    ];
+    assert!(rt; expect_text(alloc, &nested, "[[[]],f('|',:-)|f([1|2])]")?);
+    Ok(())
+}
+
+#[test]
+fn writes_points_and_braces(rt: HostRuntime) -> Result<(), Fail> {
+    let alloc = rt.alloc();
+    let alone = [Piece::Functor(".", 1), Piece::Atom("a")];
+    assert!(rt; expect_text(alloc, &alone, "'.'(a)")?);
+    let three = [
+        Piece::Functor(".", 3),
+        Piece::Atom("a"),
+        Piece::Atom("b"),
+        Piece::Atom("."),
+    ];
+    assert!(rt; expect_text(alloc, &three, "'.'(a,b,'.')")?);
+    let braces = [
+        Piece::Functor("{}", 1),
+        Piece::Functor(",", 2),
+        Piece::Atom("a"),
+        Piece::Functor(".", 2),
+        Piece::Functor("{}", 1),
+        Piece::Int(1),
+        Piece::Atom("[]"),
+    ];
+    assert!(rt; expect_text(alloc, &braces, "{','(a,[{1}])}")?);
+    let two = [Piece::Functor("{}", 2), Piece::Int(1), Piece::Int(2)];
+    assert!(rt; expect_text(alloc, &two, "'{}'(1,2)")?);
     Ok(())
 }
 
@@ -136,20 +196,48 @@ fn writes_deep_terms(rt: HostRuntime) -> Result<(), Fail> {
     Ok(())
 }
 
-fn run_of(alloc: Global, lefts: &[bool], end: RunEnd) -> Result<Run, Want> {
+// An answer with these values, which a list ends.
+fn answer(alloc: Global, values: &[Piece], left: bool) -> Result<Event, Want> {
+    Ok(Event::Answer {
+        values: term_of(alloc, values)?,
+        left,
+    })
+}
+
+const NO_VALUES: [Piece; 1] = [Piece::Atom("[]")];
+
+// Answers that show no variable.
+fn plain_answers(alloc: Global, lefts: &[bool]) -> Result<Vec<Event>, Want> {
     let mut events = Vec::new(alloc);
     for left in lefts {
-        events.push(Event::Answer { left: *left })?;
+        events.push(answer(alloc, &NO_VALUES, *left)?)?;
+    }
+    Ok(events)
+}
+
+// A run of a goal in which these variables are shown.
+fn run_with(alloc: Global, names: &[&str], events: Vec<Event>, end: RunEnd) -> Result<Run, Want> {
+    let mut shown = Vec::new(alloc);
+    for name in names {
+        shown.push(Shown {
+            name: Name::of(alloc, name.as_bytes())?,
+            var: 0,
+        })?;
     }
     Ok(Run {
         engine: 1,
         line: 0,
+        shown: ShownVariables::from_vec(shown),
         transcript: Events::of(events),
         fronts: Fronts::of(Vec::new(alloc)),
         tally: Tally::new(),
         steps: 0,
         end,
     })
+}
+
+fn run_of(alloc: Global, lefts: &[bool], end: RunEnd) -> Result<Run, Want> {
+    run_with(alloc, &[], plain_answers(alloc, lefts)?, end)
 }
 
 #[test]
@@ -172,6 +260,39 @@ fn writes_runs(rt: HostRuntime) -> Result<(), Fail> {
         % goal 4\ntrue ;\nerror: oops(_2).\n\
         % goal 5\nstopped after 7 steps.\n\
         % goal 6\ntrue.\n";
+    assert!(rt; text.as_slice() == words.as_bytes());
+    Ok(())
+}
+
+const FIRST_VALUES: [Piece; 8] = [
+    Piece::Functor(".", 2),
+    Piece::Functor("f", 1),
+    Piece::Var(0),
+    Piece::Functor(".", 2),
+    Piece::Functor(".", 2),
+    Piece::Var(0),
+    Piece::Var(1),
+    Piece::Atom("[]"),
+];
+
+const SECOND_VALUES: [Piece; 5] = [
+    Piece::Functor(".", 2),
+    Piece::Atom("a b"),
+    Piece::Functor(".", 2),
+    Piece::Int(-7),
+    Piece::Atom("[]"),
+];
+
+#[test]
+fn writes_answers(rt: HostRuntime) -> Result<(), Fail> {
+    let alloc = rt.alloc();
+    let mut events = Vec::new(alloc);
+    events.push(answer(alloc, &FIRST_VALUES, true)?)?;
+    events.push(answer(alloc, &SECOND_VALUES, false)?)?;
+    let mut runs = Vec::new(alloc);
+    runs.push(run_with(alloc, &["X", "Tail"], events, RunEnd::Exhausted)?)?;
+    let text = output(alloc, &runs)?;
+    let words = "% goal 1\nX = f(_1), Tail = [_1|_2] ;\nX = 'a b', Tail = -7.\n";
     assert!(rt; text.as_slice() == words.as_bytes());
     Ok(())
 }

@@ -1,29 +1,103 @@
 // What the program writes.
-ghost use Rattle.std.specs.Prelude.{◌≡◌, ◌++◌, filter, OnOk, IfOk};
+ghost use Rattle.std.specs.Prelude.{◌≡◌, ◌≤◌, ◌++◌, [], filter, OnOk, IfOk, drop, length};
 ghost use Rattle.prolog_main.specs.Errors as errors;
-ghost use Rattle.prolog_main.specs.Output.{event_text, events_text, closes, is_closed, end_text, is_of_load, is_of_goal, load_run_text, load_text, run_text, runs_text, output_of};
+ghost use Rattle.prolog_main.specs.Output.{elements, values_text, event_text, events_text, closes, is_closed, end_text, is_of_load, is_of_goal, load_run_text, load_text, run_text, runs_text, output_of};
+ghost use Rattle.prolog_main.specs.Frames as frames;
+ghost use Rattle.prolog_main.specs.Frames.{walk, value_walked, further_walked};
 
-use crate::canonical::{put, put_number, put_term};
+use crate::canonical::{put, put_front, put_number, put_term};
+use crate::frames::begins_cell;
 use crate::refusal::{Refusal, put_refusal};
-use prolog_terms::Want;
+use prolog_terms::{Node, Shown, Term, Want};
 use std::alloc::Global;
 use wam_machine::{Event, Run, RunEnd};
 
-fn put_event(text: &mut Vec<u8>, event: &Event) -> Result<(), Want>
-    ensures { OnOk result (text.new.items ≡ text.old.items ++ event_text event.now) }
+// A variable and its value, of which the nodes are the front of these; answers how many they are.
+fn put_value(
+    text: &mut Vec<u8>,
+    alloc: Global,
+    variable: &Shown,
+    nodes: &[Node],
+) -> Result<usize, Want>
+    ensures text { OnOk result (text.new.items ≡ text.old.items ++ value_walked variable.now nodes.now) }
+    ensures left { IfOk result (λ n. drop n nodes.now ≡ (walk [] nodes.now).left) }
+    ensures within { IfOk result (λ n. n ≤ length nodes.now) }
+{
+    text.extend_from_slice(variable.name.bytes())?;
+    put(text, " = ")?;
+    put_front(text, alloc, nodes)
+}
+
+fn at_cell(nodes: &[Node]) -> bool
+    ensures { result ≡ frames.at_cell nodes.now }
+{
+    match nodes.first() {
+        Some(node) => begins_cell(node),
+        None => false,
+    }
+}
+
+// Further variables and their values, which these nodes list.
+fn put_further(
+    text: &mut Vec<u8>,
+    alloc: Global,
+    shown: &[Shown],
+    nodes: &[Node],
+) -> Result<(), Want>
+    ensures { OnOk result (text.new.items ≡ text.old.items ++ further_walked shown.now nodes.now) }
+{
+    let mut at = 0;
+    for variable in shown {
+        if !at_cell(&nodes[at..]) {
+            return Ok(());
+        }
+        put(text, ", ")?;
+        at += 1;
+        at += put_value(text, alloc, variable, &nodes[at..])?;
+    }
+    Ok(())
+}
+
+// The shown variables and their values, of which the term is the list.
+fn put_values(text: &mut Vec<u8>, alloc: Global, shown: &[Shown], values: &Term) -> Result<(), Want>
+    ensures { OnOk result (text.new.items ≡ text.old.items ++ values_text shown.now (elements values.now)) }
+{
+    let (first, further) = match shown.split_first() {
+        Some(split) => split,
+        None => return put(text, "true"),
+    };
+    let nodes = values.nodes();
+    if !at_cell(nodes) {
+        return Ok(());
+    }
+    let count = put_value(text, alloc, first, &nodes[1..])?;
+    put_further(text, alloc, further, &nodes[1..][count..])?;
+    Ok(())
+}
+
+#[tactic(auto, unfolding(crate::specs::Output::event_text))]
+fn put_event(text: &mut Vec<u8>, alloc: Global, shown: &[Shown], event: &Event) -> Result<(), Want>
+    ensures { OnOk result (text.new.items ≡ text.old.items ++ event_text shown.now event.now) }
 {
     match event {
-        Event::Answer { left: true } => put(text, "true ;\n"),
-        Event::Answer { left: false } => put(text, "true.\n"),
+        Event::Answer { values, left } => {
+            put_values(text, alloc, shown, values)?;
+            put(text, if *left { " ;\n" } else { ".\n" })
+        }
     }
 }
 
 #[tactic(auto, unfolding(crate::specs::Output::events_text))]
-fn put_events(text: &mut Vec<u8>, events: &[Event]) -> Result<(), Want>
-    ensures { OnOk result (text.new.items ≡ text.old.items ++ events_text events.now) }
+fn put_events(
+    text: &mut Vec<u8>,
+    alloc: Global,
+    shown: &[Shown],
+    events: &[Event],
+) -> Result<(), Want>
+    ensures { OnOk result (text.new.items ≡ text.old.items ++ events_text shown.now events.now) }
 {
     for event in events {
-        put_event(text, event)?;
+        put_event(text, alloc, shown, event)?;
     }
     Ok(())
 }
@@ -32,7 +106,7 @@ fn closes(event: &Event) -> bool
     ensures { result ≡ closes event.now }
 {
     match event {
-        Event::Answer { left } => !*left,
+        Event::Answer { values: _, left } => !*left,
     }
 }
 
@@ -76,7 +150,7 @@ fn put_run(text: &mut Vec<u8>, alloc: Global, number: usize, run: &Run) -> Resul
     put(text, "% goal ")?;
     put_number(text, number as u128)?;
     put(text, "\n")?;
-    put_events(text, run.transcript.items())?;
+    put_events(text, alloc, run.shown.items(), run.transcript.items())?;
     put_end(text, alloc, run.transcript.items(), &run.end)
 }
 
@@ -135,7 +209,7 @@ pub fn refused_text(alloc: Global, runs: &[Run], refusal: Refusal) -> Result<Vec
 }
 
 /// The text of all runs: for each of the load its line and its end, and then for each goal a heading with its number,
-/// counted from 1, a line for each answer, and its end.
+/// counted from 1, a line for each answer with the values of the shown variables, and its end.
 #[tactic(auto, unfolding(crate::specs::Output::output_of))]
 pub fn output(alloc: Global, runs: &[Run]) -> Result<Vec<u8>, Want>
     ensures { IfOk result (λ text. text.items ≡ output_of runs.now) }

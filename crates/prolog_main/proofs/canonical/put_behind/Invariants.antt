@@ -1,12 +1,12 @@
 use Rattle.std.proofs.Common.{◌≡◌, ◌++◌, length}
-use Rattle.prolog_main.specs.Canonical.{behind, counts_behind}
+use Rattle.prolog_main.specs.Frames.{behind, frames_behind}
 use Rattle.prolog_main.proofs.canonical.put_behind.Given as goal
 
-abbrev pub invariant-loop-left : goal.invariant-loop-left
-invariant-loop-left l = record {
-  text : l.text.items ++ behind l.counts ≡ l.fn.text.items ++ behind l.fn.counts;
-  counts : counts_behind l.counts ≡ counts_behind l.fn.counts;
+abbrev pub invariant-loop-frame : goal.invariant-loop-frame
+invariant-loop-frame l = record {
+  text : l.text.items ++ behind l.frames ≡ l.fn.text.items ++ behind l.fn.frames;
+  frames : frames_behind l.frames ≡ frames_behind l.fn.frames;
 }
 
-abbrev pub decreases-loop-left : goal.decreases-loop-left
-decreases-loop-left l = length l.counts
+abbrev pub decreases-loop-frame : goal.decreases-loop-frame
+decreases-loop-frame l = length l.frames

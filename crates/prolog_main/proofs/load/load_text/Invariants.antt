@@ -1,4 +1,4 @@
-use Rattle.prolog_reader.specs.Streams.{ahead}
+use Rattle.prolog_lexer.specs.Streams.{ahead}
 use Rattle.prolog_reader.specs.Texts.{size}
 use Rattle.prolog_main.proofs.Loads.{IsLoading}
 use Rattle.prolog_main.proofs.load.load_text.Given as goal

@@ -20,4 +20,4 @@ returns-clause-runs g c =
     let before = c.in-Ok.ensures.ok ∙ c.renumbered.ensures in
     let after = base_after c.args.load.base c.renumbered.result c.in-Ok.engine.base c.solve-run.new.self.base c.requires.out c.renumbered.ensures c.in-Ok.ensures.ok s.becomes s.seen s.out in
     let ended : c.solve-run.result.end ≢ Want = λ h. true≢false (sym (c.wants.ensures.1 h) ∙ c.if-wants.false) in
-    runs_after c.args.load.base c.in-Ok.engine.base c.solve-run.new.self.base _ _ _ _ _ _ before after c.in-Some.is s.run ended c.in_ok-push.ensures
+    runs_after c.args.load.base c.in-Ok.engine.base c.solve-run.new.self.base c.args.command _ _ _ _ before after c.in-Some.is s.run ended c.in_ok-push.ensures

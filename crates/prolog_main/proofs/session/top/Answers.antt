@@ -6,7 +6,7 @@ use Rattle.wam_machine.specs.declared.run.Run.{Run}
 use Rattle.prolog_main.specs.FaultCounts.{Rose}
 use Rattle.prolog_main.specs.Words.{command_of}
 use Rattle.prolog_main.specs.Load.{load_runs_of}
-use Rattle.prolog_main.specs.Runs.{step_budget, AreRunsBehind, EndsInBall, EndsSpent}
+use Rattle.prolog_main.specs.Runs.{AreRunsBehind, EndsInBall, EndsSpent}
 use Rattle.prolog_main.specs.Headline.{Ends, expected, HasRuns, IsLoaded, IsEmpty, IsStatus, HasRun, HasRefused}
 use Rattle.prolog_main.specs.Ends.{final_runs}
 use Rattle.prolog_main.proofs.Rows.{bad_words_row, source_row, too_long_row, refused_row, sink_row, ball_row, spent_row, exhausted_row}
@@ -67,7 +67,7 @@ returns-clause-loaded g c = let f = c.finish.ensures.finishes in λ e.
 pub returns-clause-runs : goal.returns-clause-runs
 returns-clause-runs g c = let f = c.finish.ensures.finishes in λ e.
     let P : Journal → List Run → Type 0 = λ journal runs. IfSome (g.S.Source.left c.args.source.now) (λ text. IfSome (command_of (map string_bytes c.args.words.now))
-    (λ command. AreRunsBehind step_budget (load_runs_of c.args.sizes text) command journal runs)) in
+    (λ command. AreRunsBehind (load_runs_of c.args.sizes text) command journal runs)) in
     let row = runs_told _ _ _ _ _ _ (ran_row _ _ _ _ _ f.written c.prepare-prepared.ensures.prepares (subst HasRuns f.status_is e)) in
     subst (λ (runs : List Run). P c.finish.result.journal runs) (sym f.runs_are)
     (subst (λ (journal : Journal). P journal (final_runs c.prepare-prepared.result f.written)) (sym f.journal_is) row)

@@ -1,0 +1,6 @@
+pub mod Spelling
+pub mod Spaces
+pub mod Shapes
+pub mod Pieces
+pub mod Frames
+pub mod Rows

@@ -18,6 +18,11 @@ abbrev pub begins_rule : List Node → Bool
 begins_rule (Functor f n ∷ ns) = is_named (codes ":-") f && n == 2
 begins_rule _ = false
 
+-- whether they are those of a compound of this name and so many arguments
+abbrev pub begins_with : List ℕ → ℕ → List Node → Bool
+begins_with name k (Functor f n ∷ ns) = is_named name f && n == k
+begins_with name k _ = false
+
 -- how many nodes of a goal stand before the next goal; none where it can be no goal
 abbrev pub goal_len : List Node → Option ℕ
 goal_len [] = None

@@ -1,3 +1,5 @@
 pub mod Renaming
 pub mod Formed
 pub mod Flat
+pub mod Declarations
+pub mod Cells

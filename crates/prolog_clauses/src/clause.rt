@@ -114,7 +114,8 @@ fn numbered(alloc: Global, head: &[Node], body: &[Node]) -> Result<Clause, Want>
     })
 }
 
-fn term_of(nodes: Vec<Node>) -> Term
+/// The term of these nodes.
+pub(crate) fn term_of(nodes: Vec<Node>) -> Term
     requires { IsPrefixOrder nodes.items }
     ensures { nodes_of result ≡ nodes.items }
 {

@@ -1,7 +1,10 @@
-// Terms, and the clauses that they are.
+// Terms, the clauses that they are, and what they come to as directives.
 
-use crate::{Formed, NoClause, clause_of, clauses_are_renamings};
-use prolog_terms::{Clause, Name, Node, Term, Want};
+use crate::{
+    Declaration, Declaring, Formed, NoClause, clause_of, clauses_are_renamings, declare,
+    declaring_of,
+};
+use prolog_terms::{Clause, Fault, Indicator, Name, Node, OpKind, Ops, Term, Want, fault_term};
 use std::alloc::Global;
 use std::process::Abort;
 
@@ -49,7 +52,7 @@ fn node_of(alloc: Global, word: &str) -> Result<Node, Want> {
     if let Ok(number) = word.parse::<i64>() {
         return Ok(Node::Int(number));
     }
-    match word.split_once('/') {
+    match word.rsplit_once('/') {
         Some((name, arity)) => Ok(Node::Functor(
             Name::of(alloc, name.as_bytes())?,
             arity.parse::<u32>().unwrap_or(0),
@@ -99,6 +102,212 @@ fn terms_are_these_clauses(rt: HostRuntime) {
         let row = line.trim();
         assert!(rt;
             row_holds(rt.alloc(), row).expect(&rt, "memory"),
+            "at {row}"
+        );
+    }
+}
+
+/// Rows, each closed by a line's end: a term's nodes, an arrow, and what it comes to as a directive: no declaration of
+/// operators, the nodes of an error, or a priority, a type and names.
+const DIRECTIVES: &str = "\
+    :-/1 op/3 700 xfx a => 700 xfx a
+    :-/1 op/3 0 xfy ./2 a ./2 b ./2 a [] => 0 xfy a b a
+    :-/1 op/3 1200 yfx ./2 a [] => 1200 yfx a
+    :-/1 op/3 1 fy ./2 , ./2 [] [] => 1 fy , []
+    :-/1 op/3 2 fx {} => 2 fx {}
+    :-/1 op/3 3 xf | => 3 xf |
+    :-/1 op/3 4 yf op => 4 yf op
+    :-/1 op/3 700 xfx [] => 700 xfx
+    :-/1 op/3 _0 xfx a => instantiation_error
+    :-/1 op/3 700 _0 a => instantiation_error
+    :-/1 op/3 700 xfx _0 => instantiation_error
+    :-/1 op/3 700 xfx ./2 a ./2 _0 [] => instantiation_error
+    :-/1 op/3 700 xfx ./2 a ./2 _0 b => instantiation_error
+    :-/1 op/3 700 xfx ./2 _0 _1 => instantiation_error
+    :-/1 op/3 a _0 1 => instantiation_error
+    :-/1 op/3 a 1 ./2 1 ./2 _0 [] => instantiation_error
+    :-/1 op/3 1201 yfy _0 => instantiation_error
+    :-/1 op/3 a xfx b => type_error/2 integer a
+    :-/1 op/3 f/3 _4 _3 _4 1 1 => type_error/2 integer f/3 _0 _1 _0
+    :-/1 op/3 1201 xfx a => domain_error/2 operator_priority 1201
+    :-/1 op/3 -1 xfx a => domain_error/2 operator_priority -1
+    :-/1 op/3 1201 1 1 => domain_error/2 operator_priority 1201
+    :-/1 op/3 700 1 a => type_error/2 atom 1
+    :-/1 op/3 700 f/1 _2 1 => type_error/2 atom f/1 _0
+    :-/1 op/3 700 yfy a => domain_error/2 operator_specifier yfy
+    :-/1 op/3 700 [] 1 => domain_error/2 operator_specifier []
+    :-/1 op/3 700 xfx 1 => type_error/2 list 1
+    :-/1 op/3 700 xfx f/1 _9 => type_error/2 list f/1 _0
+    :-/1 op/3 700 xfx ./1 a => type_error/2 list ./1 a
+    :-/1 op/3 700 xfx ./2 a b => type_error/2 list ./2 a b
+    :-/1 op/3 700 xfx ./2 1 b => type_error/2 list ./2 1 b
+    :-/1 op/3 700 xfx ./2 a _3 => type_error/2 list ./2 a _0
+    :-/1 op/3 700 xfx ./2 f/1 _8 ./2 , _3 => type_error/2 list ./2 f/1 _0 ./2 , _1
+    :-/1 op/3 700 xfx ./2 a ./2 1 ./2 2 [] => type_error/2 atom 1
+    :-/1 op/3 700 xfx ./2 , ./2 f/1 _7 ./2 1 [] => type_error/2 atom f/1 _0
+    :-/1 op/3 700 xfx ./2 ./2 a [] [] => type_error/2 atom ./2 a []
+    op/3 700 xfx a => no declaration
+    :-/2 op/3 700 xfx a b => no declaration
+    :-/1 op/2 700 xfx => no declaration
+    :-/1 op/4 700 xfx a b => no declaration
+    :-/1 op => no declaration
+    :-/1 _0 => no declaration
+    :- => no declaration
+    ?-/1 op/3 700 xfx a => no declaration
+    :-/1 ,/2 op/3 700 xfx a true => no declaration
+    ";
+
+fn kind_word(kind: OpKind) -> &'static str {
+    match kind {
+        OpKind::Xfx => "xfx",
+        OpKind::Xfy => "xfy",
+        OpKind::Yfx => "yfx",
+        OpKind::Fy => "fy",
+        OpKind::Fx => "fx",
+        OpKind::Xf => "xf",
+        OpKind::Yf => "yf",
+    }
+}
+
+fn is_declaration(declaration: &Declaration, row: &str) -> bool {
+    let mut words = row.split(' ');
+    if words.next().and_then(|word| word.parse::<u16>().ok()) != Some(declaration.priority) {
+        return false;
+    }
+    if words.next() != Some(kind_word(declaration.kind)) {
+        return false;
+    }
+    for name in declaration.names.items() {
+        match words.next() {
+            Some(word) if word.as_bytes() == name.bytes() => {}
+            _ => return false,
+        }
+    }
+    words.next().is_none()
+}
+
+// The term `error(E, op/3)` with an E of these nodes.
+fn error_of(alloc: Global, words: &str) -> Result<Term, Want> {
+    let mut nodes = Vec::new(alloc);
+    nodes.push(node_of(alloc, "error/2")?)?;
+    for word in words.split(' ').chain("//2 op 3".split(' ')) {
+        nodes.push(node_of(alloc, word)?)?;
+    }
+    Term::of_nodes(nodes).map_err(|_| Want)
+}
+
+fn is_fault(alloc: Global, fault: &Fault, row: &str) -> Result<bool, Want> {
+    let at = Indicator {
+        name: Name::of(alloc, b"op")?,
+        arity: 3,
+    };
+    Ok(fault_term(alloc, fault, &at)? == error_of(alloc, row)?)
+}
+
+fn directive_holds(alloc: Global, row: &str) -> Result<bool, Want> {
+    let Some((term, outcome)) = row.split_once(" => ") else {
+        return Ok(row.is_empty());
+    };
+    let term = term_of(alloc, term)?;
+    match declaring_of(alloc, &term)? {
+        None => Ok(outcome == "no declaration"),
+        Some(Declaring::Declares(declaration)) => Ok(is_declaration(&declaration, outcome)),
+        Some(Declaring::Raises(fault)) => is_fault(alloc, &fault, outcome),
+    }
+}
+
+#[test]
+fn directives_come_to_this(rt: HostRuntime) {
+    for line in DIRECTIVES.split('\n') {
+        let row = line.trim();
+        assert!(rt;
+            directive_holds(rt.alloc(), row).expect(&rt, "memory"),
+            "at {row}"
+        );
+    }
+}
+
+/// Rows, each closed by a line's end: a directive's nodes, an arrow, the nodes of its error or `declared`, and a name with
+/// its priorities as a prefix, an infix and a postfix operator afterwards. The table is the first one, in which `!` is a
+/// postfix operator too.
+const TABLES: &str = "\
+    :-/1 op/3 700 xfx a => declared : a 0 700 0
+    :-/1 op/3 200 fy a => declared : a 200 0 0
+    :-/1 op/3 300 fy - => declared : - 300 500 0
+    :-/1 op/3 200 fy ! => declared : ! 200 0 300
+    :-/1 op/3 200 yfx ./2 a ./2 b [] => declared : a 0 200 0
+    :-/1 op/3 200 yfx ./2 a ./2 b [] => declared : b 0 200 0
+    :-/1 op/3 200 xf ./2 a ./2 a [] => declared : a 0 0 200
+    :-/1 op/3 400 yf ./2 a ./2 ! [] => declared : ! 0 0 400
+    :-/1 op/3 200 xfy [] => declared : [] 0 0 0
+    :-/1 op/3 0 xfx = => declared : = 0 0 0
+    :-/1 op/3 0 xfy - => declared : - 200 0 0
+    :-/1 op/3 0 xf = => declared : = 0 700 0
+    :-/1 op/3 0 xfx ! => declared : ! 0 0 300
+    :-/1 op/3 200 xfy , => permission_error/3 modify operator , : , 0 1000 0
+    :-/1 op/3 0 xfy , => permission_error/3 modify operator , : , 0 1000 0
+    :-/1 op/3 200 xfy | => permission_error/3 create operator | : | 0 0 0
+    :-/1 op/3 200 fy ./2 [] [] => permission_error/3 create operator [] : [] 0 0 0
+    :-/1 op/3 200 fy {} => permission_error/3 create operator {} : {} 0 0 0
+    :-/1 op/3 200 xf = => permission_error/3 create operator = : = 0 700 0
+    :-/1 op/3 200 xfx ! => permission_error/3 create operator ! : ! 0 0 300
+    :-/1 op/3 200 xfy ./2 a ./2 | ./2 , [] => permission_error/3 create operator | : a 0 0 0
+    :-/1 op/3 200 xfy ./2 , ./2 a ./2 | [] => permission_error/3 modify operator , : a 0 0 0
+    :-/1 op/3 200 xf ./2 a ./2 = ./2 , [] => permission_error/3 create operator = : a 0 0 0
+    :-/1 op/3 1201 xfx a => domain_error/2 operator_priority 1201 : a 0 0 0
+    ";
+
+fn table(alloc: Global) -> Result<Ops, Want> {
+    let mut ops = Ops::initial(alloc)?;
+    let name = Name::of(alloc, b"!")?;
+    ops.declare(300, OpKind::Xf, &name).map_err(|_| Want)?;
+    Ok(ops)
+}
+
+// The next word is this priority, or 0 where there is none.
+fn is_priority(word: Option<&str>, priority: Option<u16>) -> bool {
+    word.and_then(|word| word.parse::<u16>().ok()) == Some(priority.unwrap_or(0))
+}
+
+fn is_operator(ops: &Ops, row: &str) -> bool {
+    let mut words = row.split(' ');
+    let Some(name) = words.next() else {
+        return false;
+    };
+    let found = ops.definitions(name.as_bytes());
+    is_priority(words.next(), found.as_prefix.map(|op| op.priority))
+        && is_priority(words.next(), found.as_infix.map(|op| op.priority))
+        && is_priority(words.next(), found.as_postfix.map(|op| op.priority))
+}
+
+fn declares(alloc: Global, ops: &mut Ops, term: &str, outcome: &str) -> Result<bool, Want> {
+    let term = term_of(alloc, term)?;
+    let Some(declaring) = declaring_of(alloc, &term)? else {
+        return Ok(false);
+    };
+    match declare(alloc, ops, declaring)? {
+        None => Ok(outcome == "declared"),
+        Some(fault) => is_fault(alloc, &fault, outcome),
+    }
+}
+
+fn table_holds(alloc: Global, row: &str) -> Result<bool, Want> {
+    let Some((term, rest)) = row.split_once(" => ") else {
+        return Ok(row.is_empty());
+    };
+    let Some((outcome, operator)) = rest.split_once(" : ") else {
+        return Err(Want);
+    };
+    let mut ops = table(alloc)?;
+    Ok(declares(alloc, &mut ops, term, outcome)? && is_operator(&ops, operator))
+}
+
+#[test]
+fn directives_change_the_table_so(rt: HostRuntime) {
+    for line in TABLES.split('\n') {
+        let row = line.trim();
+        assert!(rt;
+            table_holds(rt.alloc(), row).expect(&rt, "memory"),
             "at {row}"
         );
     }

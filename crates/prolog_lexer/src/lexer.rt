@@ -2,6 +2,7 @@
 ghost use Rattle.std.specs.Prelude.{◌≡◌, ◌≤◌, ◌<◌, ◌+◌, ◌==◌, ◌↔◌, [], IfOk, OnErr, IsTrue, false, take, drop, count_by, length};
 ghost use Rattle.prolog_lexer.specs.Pieces.{piece};
 ghost use Rattle.prolog_lexer.specs.Streams.{ahead, tokens, rest_of, ended, refused as refused_stream, token as token_stream, Gives};
+ghost use Rattle.prolog_lexer.specs.Tokens.{Tokens, listed, ending};
 ghost use Rattle.prolog_lexer.specs.declared.piece.Piece.TheVariants.{Blank, Lexeme, Refused};
 
 use crate::piece::{Piece, piece_at};
@@ -29,15 +30,27 @@ impl<'a> Model for Lexer<'a> {
 }
 
 impl<'a> Lexer<'a> {
-    /// A lexer at the front of the text.
+    /// A lexer at the front of the text: the tokens ahead, and how they end, are those that the text has by cases.
     #[tactic(auto, unfolding(crate::specs::Streams::ahead))]
     pub fn new(text: &'a [u8]) -> Lexer<'a>
-        ensures { ahead result ≡ tokens text.now }
+        ensures tokens { ahead result ≡ tokens text.now }
+        ensures cases { Tokens 0 1 text.now (listed (ahead result)) (ending (ahead result)) }
     {
         Lexer {
             text,
             at: 0,
             line: 1,
+        }
+    }
+
+    /// A lexer at the same place of the same text.
+    pub fn copy(&self) -> Lexer<'a>
+        ensures { result ≡ self.now }
+    {
+        Lexer {
+            text: self.text,
+            at: self.at,
+            line: self.line,
         }
     }
 

@@ -1,53 +1,17 @@
 //! `prolog [--steps N] [GOAL]`: reads a text of clauses on standard input, runs one goal over them and writes its answers.
 //!
-//! `session::top` is the whole program over any source and any sink; its clauses say what each status means, what the
+//! `prolog_session::top` is the whole program over any source and any sink; its clauses say what each status means, what the
 //! sink gains and what is left of the source. `main` calls it with standard input and output.
 #![tactic(auto)]
 
 ghost use Rattle.std.specs.Prelude.{◌≡◌};
 ghost use Rattle.std.specs.Process.{exit_status};
 
-mod canonical;
-mod finish;
-mod frames;
-mod load;
-mod memory;
-mod part;
-mod prepare;
-mod reading;
-mod refusal;
-mod reserved;
-mod run;
-mod runs;
-mod session;
-mod sink;
-mod source;
-mod standard;
-mod steady;
-#[cfg(test)]
-mod tests;
-#[cfg(test)]
-mod text_tests;
-mod texts;
-mod words;
-mod writing;
-
-use crate::finish::WANTED;
-pub use finish::Outcome;
 use journal_base::{OpenGate, Sizes};
-pub use memory::{MemorySink, MemorySource};
-pub use prolog_terms::Want;
-pub use reading::{Text, read_all};
-pub use runs::Runs;
-pub use session::top;
-pub use sink::{Put, Sink};
-pub use source::{Got, Source};
-pub use standard::{StdSink, StdSource};
+use prolog_session::{Outcome, StdSink, StdSource, WANTED, Want, top};
 use std::env;
 use std::io::ErrorKind;
 use std::process::ExitCode;
-pub use steady::{SteadySink, SteadySource};
-pub use writing::{Written, write_all};
 
 /// The sizes of the database: its words and its updates.
 const SIZES: Sizes = Sizes {

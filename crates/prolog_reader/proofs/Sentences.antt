@@ -76,3 +76,15 @@ shorter_by ops s ts (Faulty f) line r h e = absurd cc
 pub shorter_after : (ops : Table) (s : Stream) (line : ℕ) (r : Reading) → read_of ops s ≡ a_term line r → size (tail s).rest < size s
 unfolding read_of
 shorter_after ops s line r e = shorter_by ops s (upto s) (tail s).how line r refl e
+
+-- behind a term that was read are the read-terms of the rest
+rest_by : (ops : Table) (s : Stream) (ts : List Token) (how : Ended) (line : ℕ) (r : Reading) → answer ops ts how ≡ a_term line r
+    → later how (tail s).rest ≡ sentences (tail s).rest
+rest_by ops s ts (Stopped n) line r e = refl
+rest_by ops s [] Out line r e = absurd cc
+rest_by ops s (t ∷ ts) Out line r e = absurd cc
+rest_by ops s ts (Faulty f) line r e = absurd cc
+
+pub sentences-after : (ops : Table) (s : Stream) (line : ℕ) (r : Reading) → read_of ops s ≡ a_term line r → later (tail s).how (tail s).rest ≡ sentences (tail s).rest
+unfolding read_of
+sentences-after ops s line r e = rest_by ops s (upto s) (tail s).how line r e

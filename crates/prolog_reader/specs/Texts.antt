@@ -108,10 +108,33 @@ pub record ReadsAs (ops : Table) (ts : List Token) (r : Reading) : Type 0 where
   pub shown : r.shown ≡ shown_of variables.known
   pub vars : r.vars ≡ variables.count
 
-abbrev pub ByCases : Table → List Token → Read → Type 0
-ByCases ops ts (Term r) = ReadsAs ops ts (read_reading r)
-ByCases ops ts End = Unit {0}
-ByCases ops ts (Refused line fault) = Unit {0}
+-- the tokens read as no term by the cases of the grammar
+abbrev pub ReadsAsNone : Table → List Token → Type 0
+ReadsAsNone ops ts = (q : ℕ) (t : Tree) (ws : Numbering) → Reads ops 1200 ts no_variables q t [] ws → ⊥
+
+-- the term that the tokens read as, or a refusal where they read as none
+abbrev pub IsTheirReading : Table → List Token → Read → Type 0
+IsTheirReading ops ts (Term r) = ReadsAs ops ts (read_reading r)
+IsTheirReading ops ts End = ⊥
+IsTheirReading ops ts (Refused line fault) = ReadsAsNone ops ts
+
+abbrev pub IsNothing : Read → Type 0
+IsNothing (Term r) = ⊥
+IsNothing End = Unit {0}
+IsNothing (Refused line fault) = ⊥
+
+abbrev pub IsRefusal : Read → Type 0
+IsRefusal (Term r) = ⊥
+IsRefusal End = ⊥
+IsRefusal (Refused line fault) = Unit {0}
+
+-- What is answered of tokens that end so: a term exactly where an End comes and the cases of the grammar have one, and it is
+-- that; the end of the text exactly where the text ends and no token is left; a refusal in all other cases.
+abbrev pub ByCases : Table → List Token → Ended → Read → Type 0
+ByCases ops ts (Stopped line) r = IsTheirReading ops ts r
+ByCases ops [] Out r = IsNothing r
+ByCases ops (t ∷ ts) Out r = IsRefusal r
+ByCases ops ts (Faulty f) r = IsRefusal r
 
 -- The variables are numbered from 0 by first occurrence, and each that is shown stands in the term.
 pub record HasItsVariables (r : Reading) : Type 0 where

@@ -1,5 +1,5 @@
 // Read-terms of a text (docs/LANGUAGE.md, "Terms").
-ghost use Rattle.std.specs.Prelude.{◌≡◌, ◌++◌, IfOk};
+ghost use Rattle.std.specs.Prelude.{◌≡◌, ◌++◌, IfOk, OnErr};
 ghost use Rattle.prolog_lexer.specs.Streams.{ahead};
 ghost use Rattle.prolog_reader.specs.Grammar as grammar;
 ghost use Rattle.prolog_terms.specs.Flat.{front};
@@ -51,18 +51,22 @@ pub enum Read {
 const NO_END: u8 = 6;
 
 /// Reads the next read-term: its tokens up to the next End, and the term that they are under these operators. Behind it
-/// the lexer stands after the End or, where none came, at the fault or at the end of the text; after want of memory,
-/// somewhere up to there.
+/// the lexer stands after the End or, where none came, at the fault or at the end of the text; for want of memory it
+/// stays where it is.
 #[tactic(auto, unfolding(crate::specs::Texts::read_of))]
 pub fn read_term(alloc: Global, lexer: &mut Lexer, ops: &Ops) -> Result<Read, Want>
     ensures read { IfOk result (λ r. Says (texts.read_of ops.now (ahead lexer.old)) r) }
-    ensures cases { IfOk result (λ r. ByCases ops.now (upto (ahead lexer.old)) r) }
+    ensures cases { IfOk result (λ r. ByCases ops.now (upto (ahead lexer.old)) (texts.tail (ahead lexer.old)).how r) }
     ensures variables { IfOk result (λ r. Numbers r) }
     ensures rest { IfOk result (λ _. ahead lexer.new ≡ (texts.tail (ahead lexer.old)).rest) }
+    ensures err { OnErr result (ahead lexer.new ≡ ahead lexer.old) }
 {
+    let mut behind = lexer.copy();
     let mut tokens = Vec::new(alloc);
-    let ended = collect(alloc, lexer, &mut tokens)?;
-    answer(alloc, ops, tokens.as_slice(), ended)
+    let ended = collect(alloc, &mut behind, &mut tokens)?;
+    let read = answer(alloc, ops, tokens.as_slice(), ended)?;
+    *lexer = behind;
+    Ok(read)
 }
 
 fn is_stop(kind: &TokenKind) -> bool
@@ -118,7 +122,7 @@ fn number(fault: Fault) -> u8
 
 fn answer(alloc: Global, ops: &Ops, tokens: &[Token], ended: Ended) -> Result<Read, Want>
     ensures says { IfOk result (λ r. Says (texts.answer ops.now tokens.now ended) r) }
-    ensures cases { IfOk result (λ r. ByCases ops.now tokens.now r) }
+    ensures cases { IfOk result (λ r. ByCases ops.now tokens.now ended r) }
     ensures variables { IfOk result (λ r. Numbers r) }
 {
     let line = line_of(tokens, ended);

@@ -4,7 +4,7 @@ use Rattle.std.specs.Coded.{Coded, code_by, coded×, coded_ℕ, coded_ℤ, coded
 use Rattle.std.proofs.Common.{refl, sym, ap, ◌∙◌, append_assoc, append-nil, arith, subst, add-one}
 use Rattle.std.proofs.lemmas.Bool.Decides.{nat_tests}
 use Rattle.std.proofs.lemmas.Bool.{and_parts, ltb-true, leb-true, eqb-true}
-use Rattle.prolog_terms.specs.Tree.{Tree, Trees, variable, integer, atom, compound, none, more, count, HasArities, AllHaveArities}
+use Rattle.prolog_terms.specs.Tree.{Tree, Trees, variable, integer, atom, compound, none, more, count, HasArities, AllHaveArities, IsWhole, HasWholes, AllHaveWholes}
 use Rattle.prolog_terms.specs.declared.node.Node.{Node}
 use Rattle.prolog_terms.specs.declared.node.Node.TheVariants.{Var, Int, Atom, Functor}
 
@@ -219,3 +219,41 @@ test-IsPrefixOrder ns (t, (h, e)) =
 pub IsPrefixOrder-tree : (ns : List Node) → IsPrefixOrder ns → HasPrefixOrder ns
 IsPrefixOrder-tree ns (t, (h, e)) =
     subst HasPrefixOrder e (record { arities = rw (tree-nodes t) h; spelled = ap nodes (tree-nodes t) })
+
+-- ---- the numbers of nodes
+
+-- the number or the integer of a node has 64 bits
+abbrev pub IsWholeNode : Node → Type 0
+IsWholeNode (Var n) = n < 0x1_0000_0000_0000_0000
+IsWholeNode (Int z) = IsWhole z
+IsWholeNode (Atom a) = Unit {0}
+IsWholeNode (Functor f n) = Unit {0}
+
+abbrev pub AreWholeNodes : List Node → Type 0
+AreWholeNodes [] = Unit {0}
+AreWholeNodes (n ∷ ns) = IsWholeNode n × AreWholeNodes ns
+
+wholes-first : (n : ℕ) (ts : Trees) → AllHaveWholes ts → AllHaveWholes (first n ts)
+wholes-first zero ts h = tt
+wholes-first (suc n) none h = tt
+wholes-first (suc n) (more t ts) h = (h.0, wholes-first n ts h.1)
+
+wholes-past : (n : ℕ) (ts : Trees) → AllHaveWholes ts → AllHaveWholes (past n ts)
+wholes-past zero ts h = h
+wholes-past (suc n) none h = tt
+wholes-past (suc n) (more t ts) h = wholes-past n ts h.1
+
+wholes-forest : (ns : List Node) → AreWholeNodes ns → AllHaveWholes (forest ns)
+wholes-forest [] h = tt
+wholes-forest (Var n ∷ ns) h = (h.0, wholes-forest ns h.1)
+wholes-forest (Int z ∷ ns) h = (h.0, wholes-forest ns h.1)
+wholes-forest (Atom a ∷ ns) h = (tt, wholes-forest ns h.1)
+wholes-forest (Functor f n ∷ ns) h = let w = wholes-forest ns h.1 in (wholes-first n (forest ns) w, wholes-past n (forest ns) w)
+
+wholes-front : (ts : Trees) → AllHaveWholes ts → HasWholes (front ts)
+wholes-front none h = tt
+wholes-front (more t ts) h = h.0
+
+-- the tree of such nodes
+pub wholes-tree : (ns : List Node) → AreWholeNodes ns → HasWholes (tree ns)
+wholes-tree ns h = wholes-front (forest ns) (wholes-forest ns h)

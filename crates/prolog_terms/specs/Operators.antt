@@ -1,5 +1,5 @@
 -- The operator table (docs/LANGUAGE.md, "Operators").
-use Rattle.std.specs.Prelude.{◌≡◌, ◌≢◌, ℕ, ◌-◌, List, [], ◌∷◌, Bool, false, ◌&&◌, ◌||◌, ◌==◌, nat_lt, cond, if◌then◌else◌, Option, Some, None, is_some, nat_eq, codes}
+use Rattle.std.specs.Prelude.{◌≡◌, ◌≢◌, ◌≤◌, ℕ, ◌-◌, List, [], ◌∷◌, Bool, false, ◌&&◌, ◌||◌, ◌==◌, nat_lt, cond, if◌then◌else◌, Option, Some, None, is_some, nat_eq, codes}
 use Rattle.std.specs.Cmp.Lexicographic.{pointwise}
 use Rattle.std.specs.Map.{lookup}
 use Rattle.prolog_terms.specs.declared.ops.OpKind.{OpKind}
@@ -151,3 +151,11 @@ rows_declared (r ∷ rows) table = rows_declared rows (all_declared r.priority r
 
 unfoldable pub initial_operators : Table
 initial_operators = rows_declared initial_rows []
+
+-- ---- the tables that declarations make
+
+-- the first table, and what a declaration that isn't refused makes of such a table
+pub data IsTable : Table → Type 0 where
+  first : IsTable initial_operators
+  after : {table : Table} (priority : ℕ) (kind : OpKind) (name : List ℕ)
+      → priority ≤ 1200 → refusal priority kind name table ≡ None → IsTable table → IsTable (declared priority kind name table)

@@ -1,7 +1,7 @@
 // The operator table.
 ghost use Rattle.std.specs.Prelude.{◌≡◌, ◌≤◌, [], IfOk, IfErr, OnOk, OnErr, None, map};
 ghost use Rattle.prolog_terms.specs.Operators as spec;
-ghost use Rattle.prolog_terms.specs.Operators.{initial_operators, refusal, Answers, declared, all_declared, ChangesAlone};
+ghost use Rattle.prolog_terms.specs.Operators.{initial_operators, refusal, Answers, declared, all_declared, ChangesAlone, IsTable};
 
 use crate::{Name, Want};
 use indexmap::IndexMap;
@@ -81,29 +81,139 @@ impl From<Want> for OpFault {
     }
 }
 
-/// An operator table: for each name at most one prefix, one infix and one postfix operator.
+/// Names, and what each is as an operator.
 #[derive(Debug, Drop)]
-pub struct Ops {
-    operators: IndexMap<Name, Definitions>,
+pub(crate) struct Operators {
+    definitions: IndexMap<Name, Definitions>,
 }
 
-impl Model for Ops {
+impl Model for Operators {
     ghost use Rattle.prolog_terms.specs.Operators.{Table};
 
     ghost Value = { Table };
 
-    ghost view = { λ o. o.operators.entries };
+    ghost view = { λ o. o.definitions.entries };
+}
+
+/// An operator table that declarations make: for each name at most one prefix, one infix and one postfix operator.
+#[derive(Debug, Drop)]
+pub struct Ops {
+    operators: Operators,
+}
+
+impl Model for Ops {
+    ghost use Rattle.prolog_terms.specs.Operators.{Table, IsTable};
+
+    ghost Value = { Table };
+
+    ghost view = { λ o. o.operators };
+
+    ghost invariant = { λ o. IsTable o.operators };
 }
 
 impl Ops {
     /// The table that a load begins with (ISO/IEC 13211-1, 6.3.4.4, and the operators that `docs/LANGUAGE.md` adds).
-    #[tactic(auto, unfolding(crate::specs::Operators::initial_operators))]
     pub fn initial(alloc: Global) -> Result<Ops, Want>
         ensures { IfOk result (λ o. o ≡ initial_operators) }
     {
-        let mut ops = Ops {
-            operators: IndexMap::new(alloc),
-        };
+        Ok(Ops {
+            operators: Operators::initial(alloc)?,
+        })
+    }
+
+    /// A copy of the table.
+    pub fn copy(&self) -> Result<Ops, Want>
+        ensures { IfOk result (λ o. o ≡ self.now) }
+    {
+        Ok(Ops {
+            operators: self.operators.copy()?,
+        })
+    }
+
+    /// The table is one that declarations make.
+    pub fn known(&self)
+        ensures table { IsTable self.now }
+    {
+        let _ = &self.operators;
+    }
+
+    /// Declares an operator: from then on the name is one of this type and priority (ISO/IEC 13211-1, 8.14.3). Priority
+    /// 0 removes the operator of the type's class. Nothing else of the table changes; after a refusal nothing does.
+    pub fn declare(&mut self, priority: u16, kind: OpKind, name: &Name) -> Result<(), OpFault>
+        requires { priority ≤ 1200 }
+        ensures accepted { OnOk result (refusal priority kind name.now self.old ≡ None) }
+        ensures ok { OnOk result (self.new ≡ declared priority kind name.now self.old) }
+        ensures alone { OnOk result (ChangesAlone priority kind name.now self.old self.new) }
+        ensures refused { IfErr result (λ fault. Answers (refusal priority kind name.now self.old) fault) }
+        ensures err { OnErr result (self.new ≡ self.old) }
+    {
+        if let Some(fault) = self.refusal(priority, kind, name) {
+            return Err(fault);
+        }
+        let name = name.clone()?;
+        self.operators.define(priority, kind, name)?;
+        Ok(())
+    }
+
+    /// Why a declaration would be refused; none where it wouldn't be.
+    pub fn refusal(&self, priority: u16, kind: OpKind, name: &Name) -> Option<OpFault>
+        ensures { result ≡ refusal priority kind name.now self.now }
+    {
+        if is_comma(name.bytes()) {
+            return Some(OpFault::Comma);
+        }
+        if is_reserved(name.bytes()) {
+            return Some(OpFault::Reserved);
+        }
+        if priority > 0 && clashes(kind, self.definitions(name.bytes())) {
+            return Some(OpFault::Clash);
+        }
+        None
+    }
+
+    /// What a text is as an operator.
+    pub fn definitions(&self, name: &[u8]) -> Definitions
+        ensures { result ≡ spec.definitions self.now name.now }
+    {
+        self.operators.definitions_of(name)
+    }
+
+    /// The prefix operator of a name.
+    pub fn prefix(&self, name: &Name) -> Option<Prefix>
+        ensures { result ≡ spec.prefix_op self.now name.now }
+    {
+        self.definitions(name.bytes()).as_prefix
+    }
+
+    /// The infix operator of a name.
+    pub fn infix(&self, name: &Name) -> Option<Infix>
+        ensures { result ≡ spec.infix_op self.now name.now }
+    {
+        self.definitions(name.bytes()).as_infix
+    }
+
+    /// The postfix operator of a name.
+    pub fn postfix(&self, name: &Name) -> Option<Postfix>
+        ensures { result ≡ spec.postfix_op self.now name.now }
+    {
+        self.definitions(name.bytes()).as_postfix
+    }
+}
+
+impl Operators {
+    fn new(alloc: Global) -> Operators
+        ensures { result ≡ [] }
+    {
+        Operators {
+            definitions: IndexMap::new(alloc),
+        }
+    }
+
+    #[tactic(auto, unfolding(crate::specs::Operators::initial_operators))]
+    fn initial(alloc: Global) -> Result<Operators, Want>
+        ensures { IfOk result (λ o. o ≡ initial_operators) }
+    {
+        let mut ops = Operators::new(alloc);
         ops.put(alloc, 1200, OpKind::Xfx, &[":-", "-->"])?;
         ops.put(alloc, 1200, OpKind::Fx, &[":-", "?-"])?;
         ops.put(
@@ -141,45 +251,19 @@ impl Ops {
         Ok(ops)
     }
 
-    /// A copy of the table.
-    pub fn copy(&self) -> Result<Ops, Want>
+    fn copy(&self) -> Result<Operators, Want>
         ensures { IfOk result (λ o. o ≡ self.now) }
     {
-        Ok(Ops {
-            operators: self.operators.clone()?,
+        Ok(Operators {
+            definitions: self.definitions.clone()?,
         })
     }
 
-    /// Declares an operator: from then on the name is one of this type and priority (ISO/IEC 13211-1, 8.14.3). Priority
-    /// 0 removes the operator of the type's class. Nothing else of the table changes; after a refusal nothing does.
-    pub fn declare(&mut self, priority: u16, kind: OpKind, name: &Name) -> Result<(), OpFault>
-        requires { priority ≤ 1200 }
-        ensures accepted { OnOk result (refusal priority kind name.now self.old ≡ None) }
-        ensures ok { OnOk result (self.new ≡ declared priority kind name.now self.old) }
-        ensures alone { OnOk result (ChangesAlone priority kind name.now self.old self.new) }
-        ensures refused { IfErr result (λ fault. Answers (refusal priority kind name.now self.old) fault) }
-        ensures err { OnErr result (self.new ≡ self.old) }
-    {
-        if is_comma(name.bytes()) {
-            return Err(OpFault::Comma);
-        }
-        if is_reserved(name.bytes()) {
-            return Err(OpFault::Reserved);
-        }
-        if priority > 0 && clashes(kind, self.definitions(name.bytes())) {
-            return Err(OpFault::Clash);
-        }
-        let name = name.clone()?;
-        self.define(priority, kind, name)?;
-        Ok(())
-    }
-
-    /// What a text is as an operator.
     #[tactic(auto, unfolding(crate::specs::Operators::definitions))]
-    pub fn definitions(&self, name: &[u8]) -> Definitions
+    fn definitions_of(&self, name: &[u8]) -> Definitions
         ensures { result ≡ spec.definitions self.now name.now }
     {
-        match self.operators.get(name) {
+        match self.definitions.get(name) {
             Some(definitions) => *definitions,
             None => Definitions {
                 as_prefix: None,
@@ -187,27 +271,6 @@ impl Ops {
                 as_postfix: None,
             },
         }
-    }
-
-    /// The prefix operator of a name.
-    pub fn prefix(&self, name: &Name) -> Option<Prefix>
-        ensures { result ≡ spec.prefix_op self.now name.now }
-    {
-        self.definitions(name.bytes()).as_prefix
-    }
-
-    /// The infix operator of a name.
-    pub fn infix(&self, name: &Name) -> Option<Infix>
-        ensures { result ≡ spec.infix_op self.now name.now }
-    {
-        self.definitions(name.bytes()).as_infix
-    }
-
-    /// The postfix operator of a name.
-    pub fn postfix(&self, name: &Name) -> Option<Postfix>
-        ensures { result ≡ spec.postfix_op self.now name.now }
-    {
-        self.definitions(name.bytes()).as_postfix
     }
 
     fn put(
@@ -230,8 +293,8 @@ impl Ops {
         ensures ok { OnOk result (self.new ≡ declared priority kind name self.old) }
         ensures err { OnErr result (self.new ≡ self.old) }
     {
-        let definitions = defined(kind, priority, self.definitions(name.bytes()));
-        self.operators.insert(name, definitions)?;
+        let definitions = defined(kind, priority, self.definitions_of(name.bytes()));
+        self.definitions.insert(name, definitions)?;
         Ok(())
     }
 }

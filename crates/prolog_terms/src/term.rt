@@ -1,11 +1,12 @@
 // A finite tree, kept flat in prefix order.
 ghost use Rattle.std.specs.Prelude.{◌≡◌, ◌↔◌, IsTrue, IfOk, IfErr, IsOk};
-ghost use Rattle.prolog_terms.specs.Tree.{HasArities};
+ghost use Rattle.prolog_terms.specs.Tree.{HasArities, HasWholes};
 ghost use Rattle.std.specs.Cmp.{on_per};
 ghost use Rattle.std.specs.Cmp.Lexicographic.{pointwise, lists_per, lists_equiv};
-ghost use Rattle.prolog_terms.specs.Flat.{nodes as nodes_of, are_trees, IsPrefixOrder};
+ghost use Rattle.prolog_terms.specs.Flat.{nodes as nodes_of, are_trees, IsPrefixOrder, AreWholeNodes};
 
 use crate::Node;
+use crate::node::nodes_known;
 use std::alloc::AllocError;
 use std::marker::Model;
 
@@ -21,18 +22,24 @@ impl Model for Nodes {
 
     ghost Value = { List Node };
 
+    ghost use Rattle.prolog_terms.specs.Flat.{AreWholeNodes};
+
     ghost view = { λ n. n.items.items };
+
+    ghost invariant = { λ n. AreWholeNodes n.items.items };
 }
 
 impl Nodes {
     pub fn from_vec(items: Vec<Node>) -> Nodes
         ensures { result ≡ items.items }
     {
+        nodes_known(items.as_slice());
         Nodes { items }
     }
 
     pub fn items(&self) -> &[Node]
-        ensures { result.now ≡ self.now }
+        ensures items { result.now ≡ self.now }
+        ensures wholes { AreWholeNodes self.now }
     {
         self.items.as_slice()
     }
@@ -91,6 +98,7 @@ impl Term {
         ensures nodes { result.now ≡ nodes_of self.now }
         ensures prefix { IsTrue (are_trees 1 result.now) }
         ensures arities { HasArities self.now }
+        ensures wholes { HasWholes self.now }
     {
         self.nodes.items()
     }

@@ -1,6 +1,6 @@
 -- Pieces that are added one by one.
 use Rattle.std.proofs.Common.{◌≡◌, ℕ, List, [], ◌∷◌, ◌++◌, refl, sym, ap, ◌∙◌, append_assoc, append-nil}
-use Rattle.prolog_writer.specs.Spaces.{Piece, Writing, added, all_added, gap, edge_of, spaced, nothing_yet, text_of}
+use Rattle.prolog_writer.specs.Spaces.{Piece, Writing, added, all_added, gap, edge_of, spaced}
 
 pub all_added-append : (w : Writing) (ps qs : List Piece) → all_added w (ps ++ qs) ≡ all_added (all_added w ps) qs
 all_added-append w [] qs = refl
@@ -14,7 +14,3 @@ all_added-text w [] = sym (append-nil w.text)
 all_added-text w (p ∷ ps) =
     let first : (all_added (added w p) ps).text ≡ ((w.text ++ gap w.edge p) ++ p.text) ++ spaced (edge_of p) ps = all_added-text (added w p) ps in
     first ∙ together w.text (gap w.edge p) p.text (spaced (edge_of p) ps)
-
--- from the start: the text of the pieces
-pub all_added-text_of : (ps : List Piece) → (all_added nothing_yet ps).text ≡ text_of ps
-all_added-text_of ps = all_added-text nothing_yet ps

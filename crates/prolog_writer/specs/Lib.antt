@@ -4,3 +4,7 @@ pub mod Shapes
 pub mod Pieces
 pub mod Frames
 pub mod Rows
+pub mod Again
+pub mod Lexemes
+pub mod Tokens
+pub mod Told

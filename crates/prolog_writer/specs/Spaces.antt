@@ -71,8 +71,9 @@ pub record Writing : Type 0 where
   pub text : List ℕ
   pub edge : Option Edge
 
-abbrev pub nothing_yet : Writing
-nothing_yet = record { text = []; edge = None }
+-- no piece yet, behind a text
+abbrev pub no_piece_yet : List ℕ → Writing
+no_piece_yet text = record { text = text; edge = None }
 
 abbrev pub added : Writing → Piece → Writing
 added w p = record { text = w.text ++ gap w.edge p ++ p.text; edge = edge_of p }

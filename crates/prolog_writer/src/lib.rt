@@ -8,6 +8,7 @@ mod frames;
 mod kind;
 mod law;
 mod output;
+mod reading_again;
 mod shape;
 mod spelling;
 mod style;
@@ -16,5 +17,9 @@ mod tests;
 mod writing;
 
 pub use law::rows;
+pub use reading_again::{
+    parts_have_tokens, tables_are_lawful, terms_have_tokens, terms_read, texts_have_tokens,
+    variables_are_numbered, written_is_read_again,
+};
 pub use style::Style;
-pub use writing::write;
+pub use writing::{write, write_front};

@@ -2,7 +2,7 @@
 ghost use Rattle.std.specs.Prelude.{◌≡◌, OnOk, codes};
 ghost use Rattle.std.specs.Fmt.{decimal, signed_decimal};
 ghost use Rattle.prolog_writer.specs.Spaces as spec;
-ghost use Rattle.prolog_writer.specs.Spaces.{Writing, piece, nothing_yet, added, edge_of, needs_space};
+ghost use Rattle.prolog_writer.specs.Spaces.{Writing, piece, no_piece_yet, added, edge_of, needs_space};
 ghost use Rattle.prolog_writer.specs.Spelling.{name_text, variable_text};
 ghost use Rattle.prolog_writer.specs.Pieces.{mark};
 
@@ -92,14 +92,11 @@ impl Model for Output {
 }
 
 impl Output {
-    /// No piece yet.
-    pub fn new(alloc: Global) -> Output
-        ensures { result ≡ nothing_yet }
+    /// No piece yet, behind a text.
+    pub fn behind(text: Vec<u8>) -> Output
+        ensures { result ≡ no_piece_yet text.items }
     {
-        Output {
-            text: Vec::new(alloc),
-            last: None,
-        }
+        Output { text, last: None }
     }
 
     /// The bytes.

@@ -1,6 +1,6 @@
 // Worked rows, run.
 
-use crate::{Style, rows, write};
+use crate::{Style, rows, write, write_front};
 use prolog_terms::{Name, Node, Ops, Term, Want, Whole};
 use std::alloc::Global;
 use std::test::Fail;
@@ -23,12 +23,16 @@ fn node_of(alloc: Global, part: Part) -> Result<Node, Want> {
     })
 }
 
-fn term_of(alloc: Global, parts: &[Part]) -> Result<Term, Want> {
+fn nodes_of(alloc: Global, parts: &[Part]) -> Result<Vec<Node>, Want> {
     let mut nodes = Vec::new(alloc);
     for part in parts {
         nodes.push(node_of(alloc, *part)?)?;
     }
-    Term::of_nodes(nodes).map_err(|_| Want)
+    Ok(nodes)
+}
+
+fn term_of(alloc: Global, parts: &[Part]) -> Result<Term, Want> {
+    Term::of_nodes(nodes_of(alloc, parts)?).map_err(|_| Want)
 }
 
 // Whether these are the texts of a term as the value of an answer, Plain, Quoted and Canonical.
@@ -90,6 +94,34 @@ fn writes_the_ends_of_numbers(rt: HostRuntime) -> Result<(), Fail> {
     let last = [Part::Var(u64::MAX)];
     let words = "_18446744073709551616";
     assert!(rt; has_texts(alloc, &last, [words, words, words])?);
+    Ok(())
+}
+
+// The text of the term at the front of these nodes behind another, and how many nodes it has.
+fn fronted(alloc: Global, parts: &[Part], before: &str) -> Result<(Vec<u8>, usize), Want> {
+    let ops = Ops::initial(alloc)?;
+    let nodes = nodes_of(alloc, parts)?;
+    let mut text = Vec::from_slice(alloc, before.as_bytes())?;
+    let count = write_front(alloc, &mut text, &nodes, &ops, Style::Quoted, 699)?;
+    Ok((text, count))
+}
+
+#[test]
+fn writes_the_term_at_the_front(rt: HostRuntime) -> Result<(), Fail> {
+    let alloc = rt.alloc();
+    let parts = [
+        Part::Functor("-", 2),
+        Part::Int(1),
+        Part::Int(-1),
+        Part::Atom("b"),
+        Part::Var(0),
+    ];
+    let (text, count) = fronted(alloc, &parts, "X = ")?;
+    assert!(rt; text.as_slice() == b"X = 1- -1".as_slice());
+    assert!(rt; count == 3);
+    let (text, count) = fronted(alloc, &[Part::Atom("b"), Part::Var(0)], "a")?;
+    assert!(rt; text.as_slice() == b"ab".as_slice());
+    assert!(rt; count == 1);
     Ok(())
 }
 

@@ -1,19 +1,25 @@
 // The text of a term, node by node.
-ghost use Rattle.std.specs.Prelude.{◌≡◌, ◌≤◌, [], ◌∷◌, ◌++◌, OnOk, IfOk, drop, length};
-ghost use Rattle.prolog_writer.specs.Spaces.{added, all_added, nothing_yet};
+ghost use Rattle.std.specs.Prelude.{◌≡◌, ◌≤◌, List, [], ◌∷◌, ◌++◌, true, OnOk, IfOk, drop, length};
+ghost use Rattle.prolog_terms.specs.Tree.{Tree, HasArities, HasWholes};
+ghost use Rattle.prolog_terms.specs.Flat.{nodes as nodes_of};
+ghost use Rattle.prolog_writer.specs.Spaces.{added, all_added};
 ghost use Rattle.prolog_writer.specs.Pieces.{atom_piece, operator_piece, prefix_piece, functor_piece, atom_pieces, written};
 ghost use Rattle.prolog_writer.specs.Frames.{behind, frames_behind, opening, begun, frames_begun, parenthesis, in_parenthesis, plain_pieces, plain_frames, rest_pieces, rest_frames, node_pieces, frames_after, walk};
 ghost use Rattle.prolog_writer.specs.declared.shape.Place.TheVariants.{Within};
 ghost use Rattle.prolog_writer.specs.Pieces as spec;
+ghost use Rattle.prolog_writer.specs.Spelling.{has_quotes};
+ghost use Rattle.prolog_writer.specs.Again.{IsReadAs, ReadsAgain};
 
 use crate::Style;
 use crate::frames::{Frame, Frames, opened};
 use crate::kind::Kind;
 use crate::output::Output;
+use crate::reading_again::written_is_read_again;
 use crate::shape::{Place, Shape, begins_cell, ends_list, is_atom_enclosed, is_enclosed, shape_of};
 use crate::spelling::{quotes_atom, quotes_functor, quotes_operator, same_text};
 use prolog_terms::{Name, Node, Ops, Term, Want};
 use std::alloc::Global;
+use std::mem;
 
 /// How terms are written: in which style, under which operators, and where the outermost stands.
 #[derive(Clone, Copy)]
@@ -236,18 +242,44 @@ fn put_front(out: &mut Output, manner: Manner<'_>, nodes: &[Node]) -> Result<usi
     Ok(count)
 }
 
-/// The text of a term in a style, under an operator table, where its priority may be `max` at most. No depth of the term is
-/// too great.
-pub fn write(alloc: Global, term: &Term, ops: &Ops, style: Style, max: u16) -> Result<Vec<u8>, Want>
-    ensures { IfOk result (λ text. text.items ≡ written ops.now style max term.now) }
+/// Puts the text of the term at the front of these nodes at the end of a text, as `write` gives it, and answers how many nodes
+/// the term has. The bytes that were there stay, and no space is put between them and the term's. After want of memory the
+/// text may be any. What is written of a term in Quoted or Canonical is read again as the term (`write`).
+pub fn write_front(
+    alloc: Global,
+    text: &mut Vec<u8>,
+    nodes: &[Node],
+    ops: &Ops,
+    style: Style,
+    max: u16,
+) -> Result<usize, Want>
+    ensures text { (t : Tree) → (rest : List Node) → HasArities t → nodes.now ≡ nodes_of t ++ rest → OnOk result (text.new.items ≡ text.old.items ++ written ops.now style max t) }
+    ensures count { (t : Tree) → (rest : List Node) → HasArities t → nodes.now ≡ nodes_of t ++ rest → IfOk result (λ n. n ≡ length (nodes_of t)) }
+    ensures within { IfOk result (λ n. n ≤ length nodes.now) }
+    ensures read_again { (t : Tree) → HasArities t → HasWholes t → has_quotes style ≡ true → ReadsAgain ops.now style max t }
 {
+    ops.known();
+    written_is_read_again();
     let manner = Manner {
         alloc,
         ops,
         style,
         outer: Place::Within(max),
     };
-    let mut out = Output::new(alloc);
-    put_front(&mut out, manner, term.nodes())?;
-    Ok(out.into_text())
+    let mut out = Output::behind(mem::replace(text, Vec::new(alloc)));
+    let count = put_front(&mut out, manner, nodes)?;
+    *text = out.into_text();
+    Ok(count)
+}
+
+/// The text of a term in a style, under an operator table, where its priority may be `max` at most. No depth of the term is
+/// too great. Where names have quotes, so in Quoted and Canonical, the text with ` .` behind it is read again as the same term
+/// under the same table, with its variables numbered from 0 by first occurrence.
+pub fn write(alloc: Global, term: &Term, ops: &Ops, style: Style, max: u16) -> Result<Vec<u8>, Want>
+    ensures text { IfOk result (λ text. text.items ≡ written ops.now style max term.now) }
+    ensures read_again { IfOk result (λ text. has_quotes style ≡ true → IsReadAs ops.now text.items term.now) }
+{
+    let mut text = Vec::new(alloc);
+    write_front(alloc, &mut text, term.nodes(), ops, style, max)?;
+    Ok(text)
 }

@@ -1,4 +1,4 @@
-use Rattle.std.proofs.Common.{◌≡◌, sym, ap, ◌∙◌}
+use Rattle.std.proofs.Common.{sym, ap, ◌∙◌}
 use Rattle.prolog_terms.specs.Clauses as terms
 use Rattle.prolog_terms.specs.Flat.{tree, tree-nodes, IsPrefixOrder-tree}
 use Rattle.prolog_clauses.proofs.clause.can_be_body.Goals as goal

@@ -1,22 +1,18 @@
-use Rattle.std.proofs.Common.{◌∙◌, ap, []}
-use Rattle.prolog_writer.specs.declared.shape.Place.TheVariants.{Within}
-use Rattle.prolog_writer.specs.Spaces.{Writing, all_added, nothing_yet}
-use Rattle.prolog_writer.specs.Pieces.{pieces}
-use Rattle.prolog_writer.specs.Frames.{Walk, walk}
-use Rattle.prolog_writer.proofs.Joined.{all_added-text_of}
-use Rattle.prolog_writer.proofs.Walks.{walk_alone}
+use Rattle.std.proofs.Common.{ℕ, List, ◌++◌, ◌∙◌, [], ap, sym, subst, append-nil}
+use Rattle.prolog_terms.specs.Flat.{nodes as nodes_of}
+use Rattle.prolog_writer.specs.Pieces.{written}
+use Rattle.prolog_writer.specs.Again.{IsReadAs}
 use Rattle.prolog_writer.proofs.writing.write.Goals as goal
 
-pub returns : goal.returns
-returns c =
-    let o = c.args.ops.now in
-    let s = c.args.style in
-    let w = Within c.args.max in
+pub returns-clause-text : goal.returns-clause-text
+returns-clause-text c =
     let t = c.args.term.now in
-    c.into_text.ensures
-    ∙ ap (λ (x : Writing). x.text) (
-    c.in_ok-put_front.ensures.text
-    ∙ ap (λ (x : Writing). all_added x (walk o s w [] c.nodes.result.now).pieces) c.new-out.ensures
-    ∙ ap (λ (x : Walk). all_added nothing_yet x.pieces) (ap (walk o s w []) c.nodes.ensures.nodes ∙ walk_alone o s w t c.nodes.ensures.arities)
-    )
-    ∙ all_added-text_of (pieces o s w t)
+    c.in_ok-write_front.ensures.text t [] c.nodes.ensures.arities (c.nodes.ensures.nodes ∙ sym (append-nil (nodes_of t)))
+    ∙ ap (λ (l : List ℕ). l ++ written c.args.ops.now c.args.style c.args.max t) c.new-text.ensures.items
+
+pub returns-clause-read_again : goal.returns-clause-read_again
+returns-clause-read_again c = λ quotes.
+    let t = c.args.term.now in
+    let text = c.in_ok-write_front.ensures.text t [] c.nodes.ensures.arities (c.nodes.ensures.nodes ∙ sym (append-nil (nodes_of t)))
+    ∙ ap (λ (l : List ℕ). l ++ written c.args.ops.now c.args.style c.args.max t) c.new-text.ensures.items in
+    subst (λ (bytes : List ℕ). IsReadAs c.args.ops.now bytes t) (sym text) (c.in_ok-write_front.ensures.read_again t c.nodes.ensures.arities c.nodes.ensures.wholes quotes)

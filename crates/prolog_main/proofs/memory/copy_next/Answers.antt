@@ -1,8 +1,0 @@
-use Rattle.std.proofs.Common.{◌+◌, ◌≤◌, length, arith}
-use Rattle.prolog_main.proofs.Pieces.{copied_then_left}
-use Rattle.prolog_main.proofs.memory.copy_next.Goals as goal
-
-pub returns-clause-moved : goal.returns-clause-moved
-returns-clause-moved c =
-    let within : c.args.at + c.min-count.result ≤ length c.args.bytes.now = omega arith in
-    copied_then_left c.min-count.result c.args.at c.args.bytes.now _ _ within c.copy_from_slice.ensures.after

@@ -1,0 +1,12 @@
+pub mod Pieces
+pub mod Plains
+pub mod Ran
+pub mod Facts
+pub mod Placing
+pub mod Loads
+pub mod OneTerm
+pub mod Digits
+pub mod Answered
+pub mod Rows
+pub mod Outcomes
+pub mod Under

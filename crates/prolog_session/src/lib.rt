@@ -1,0 +1,41 @@
+//! The whole program over any source and any sink: a text of clauses is loaded, goals are run over it, and their answers are
+//! written.
+//!
+//! `session::top` is the program; its clauses say what each status means, what the sink gains and what is left of the source.
+#![tactic(auto)]
+
+mod finish;
+mod load;
+mod memory;
+mod part;
+mod prepare;
+mod putting;
+mod reading;
+mod refusal;
+mod reserved;
+mod run;
+mod runs;
+mod session;
+mod sink;
+mod source;
+mod standard;
+mod steady;
+#[cfg(test)]
+mod tests;
+#[cfg(test)]
+mod text_tests;
+mod texts;
+mod words;
+mod writing;
+
+pub use finish::{Outcome, WANTED};
+pub use memory::{MemorySink, MemorySource};
+pub use prolog_terms::Want;
+pub use reading::{Text, read_all};
+pub use runs::Runs;
+pub use session::top;
+pub use sink::{Put, Sink};
+pub use source::{Got, Source};
+pub use standard::{StdSink, StdSource};
+pub use steady::{SteadySink, SteadySource};
+pub use writing::{Written, write_all};

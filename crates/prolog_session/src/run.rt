@@ -1,0 +1,126 @@
+// The run of a command's goal, and the status that runs give.
+ghost use Rattle.std.specs.Prelude.{◌≡◌, ◌↔◌, IfOk, IsTrue};
+ghost use Rattle.std.specs.List.{list_any};
+ghost use Rattle.prolog_session.specs.Words.{IsReady};
+ghost use Rattle.prolog_session.specs.Runs.{AreRunsBehind, ends_in_ball, ends_spent, status_of};
+
+use crate::load::Load;
+use crate::runs::Runs;
+use crate::words::Command;
+use journal_base::{Gate, PlainBase};
+use prolog_terms::{Entries, Ops, Want};
+use std::alloc::Global;
+use std::sync::Wait;
+use wam_machine::{Engine, Run, RunEnd};
+
+/// The engine of the first goal.
+const FIRST: u32 = 1;
+
+/// The journal of a load, its runs with that of the command's goal behind them, and its operators.
+#[derive(Drop)]
+pub struct Ran {
+    pub journal: Entries,
+    pub runs: Runs,
+    pub ops: Ops,
+}
+
+/// Runs the command's goal over the journal of a load, if it has one, in as many steps at most as the command gives. The goal's
+/// engine has a copy of the operators.
+pub fn run_command<R: Wait, G: Gate>(
+    rt: &R,
+    alloc: Global,
+    gate: &G,
+    command: Command,
+    load: Load,
+) -> Result<Ran, Want>
+    requires ready { IsReady command }
+    requires out { load.base.out ≡ 0 }
+    ensures journal { IfOk result (λ ran. ran.journal ≡ load.base.entries) }
+    ensures operators { IfOk result (λ ran. ran.ops ≡ load.ops) }
+    ensures runs { IfOk result (λ ran. AreRunsBehind load.runs command load.base.entries ran.runs) }
+{
+    let Load {
+        base,
+        ops,
+        mut runs,
+        refused: _,
+    } = load;
+    let Command { steps, goal } = command;
+    let goal = match goal {
+        Some(goal) => goal,
+        None => {
+            return Ok(Ran {
+                journal: base.into_entries(),
+                runs,
+                ops,
+            });
+        }
+    };
+    let mut engine = match Engine::new(alloc, base.renumbered(FIRST), ops.copy()?) {
+        Ok(engine) => engine,
+        Err(_) => return Err(Want),
+    };
+    let run = engine.solve(rt, &goal, steps, gate);
+    if wants(&run) {
+        return Err(Want);
+    }
+    runs.push(run)?;
+    Ok(Ran {
+        journal: engine.into_base().into_entries(),
+        runs,
+        ops,
+    })
+}
+
+fn wants(run: &Run) -> bool
+    ensures { IsTrue result ↔ (run.now.end ≡ RunEnd.Want) }
+{
+    match run.end {
+        RunEnd::Want => true,
+        _ => false,
+    }
+}
+
+fn is_ball(run: &Run) -> bool
+    ensures { result ≡ ends_in_ball run.now }
+{
+    match run.end {
+        RunEnd::Ball(_) => true,
+        _ => false,
+    }
+}
+
+fn is_spent(run: &Run) -> bool
+    ensures { result ≡ ends_spent run.now }
+{
+    match run.end {
+        RunEnd::Spent(_) => true,
+        _ => false,
+    }
+}
+
+fn some_ball(runs: &[Run]) -> bool
+    ensures { result ≡ list_any ends_in_ball runs.now }
+{
+    runs.iter().any(|run| is_ball(run))
+}
+
+fn some_spent(runs: &[Run]) -> bool
+    ensures { result ≡ list_any ends_spent runs.now }
+{
+    runs.iter().any(|run| is_spent(run))
+}
+
+/// The status that runs give, where they are written whole.
+#[tactic(auto, unfolding(crate::specs::Runs::status_of))]
+pub fn status_of_runs(runs: &[Run]) -> u8
+    ensures { result ≡ status_of runs.now }
+{
+    if some_ball(runs) {
+        1
+    } else if some_spent(runs) {
+        7
+    } else {
+        0
+    }
+}

@@ -1,0 +1,796 @@
+// Worked rows of `top`.
+
+ghost use Rattle.std.specs.Prelude.{◌<◌, ◌≤◌, ◌^◌};
+
+use crate::load::load_text;
+use crate::reading::MAX_TEXT;
+use crate::run::run_command;
+use crate::session::top;
+use crate::texts::output;
+use crate::words::read_command;
+use crate::{MemorySink, MemorySource, Sink, Source, SteadySink, SteadySource};
+use journal_base::{Gate, OpenGate, Sizes};
+use prolog_terms::{Ops, Want};
+use std::alloc::Global;
+use std::cell::Cell;
+use std::process::Abort;
+use std::sync::Wait;
+use std::thread::Threads;
+
+const SIZES: Sizes = Sizes {
+    words: 1000,
+    updates: 1000,
+};
+
+/// A text, the words, and the status and the output that they lead to.
+type Row = (&'static str, &'static [&'static str], u8, &'static str);
+
+const REFUSED: &str = "error: line 1: fault 7.\n";
+
+const BAD_WORDS: &str = "error: bad words.\n";
+
+// Faults of the reader, each with its line.
+const FAULTS: [Row; 13] = [
+    ("a.\n\n`b.\n", &["true"], 3, "error: line 3: fault 1.\n"),
+    ("a.\n'b\n'.\n", &["true"], 3, "error: line 2: fault 2.\n"),
+    ("a.\n'b\\q'.\n", &["true"], 3, "error: line 2: fault 3.\n"),
+    ("a.\n\n/* b.\n", &["true"], 3, "error: line 3: fault 4.\n"),
+    (
+        "a.\np(9223372036854775809).\n",
+        &["true"],
+        3,
+        "error: line 2: fault 5.\n",
+    ),
+    (
+        "p(-9223372036854775808).\np(9223372036854775808).\n",
+        &["true"],
+        3,
+        "error: line 2: fault 5.\n",
+    ),
+    ("a.\nb.\np(a\n", &["true"], 3, "error: line 3: fault 6.\n"),
+    ("p(a b).\n", &["true"], 3, REFUSED),
+    ("a.\n\n.\n", &["true"], 3, "error: line 3: fault 7.\n"),
+    ("p(,a).\n", &["true"], 3, REFUSED),
+    (
+        "a.\np\n:- q :- r.\n",
+        &["true"],
+        3,
+        "error: line 2: fault 8.\n",
+    ),
+    ("[a|b,c].\n", &["true"], 3, "error: line 1: fault 8.\n"),
+    ("a. 'b", &["true"], 3, "error: line 1: fault 2.\n"),
+];
+
+// Terms that are read, and are no clauses that a text may have.
+const NO_CLAUSES: [Row; 22] = [
+    ("a.\n\n3.\n", &["true"], 3, "error: line 3: fault 7.\n"),
+    ("3.\n", &["true"], 3, REFUSED),
+    ("X.\n", &["true"], 3, REFUSED),
+    ("X :- a.\n", &["true"], 3, REFUSED),
+    ("3 :- a.\n", &["true"], 3, REFUSED),
+    (":- p.\n", &["true"], 3, REFUSED),
+    ("?- p.\n", &["true"], 3, REFUSED),
+    ("p --> q.\n", &["true"], 3, REFUSED),
+    ("true.\n", &["true"], 3, REFUSED),
+    ("write(a).\n", &["true"], 3, REFUSED),
+    ("call(a,b,c,d,e,f,g,h).\n", &[], 3, REFUSED),
+    ("a, b.\n", &["true"], 3, REFUSED),
+    ("X = X.\n", &["true"], 3, REFUSED),
+    ("X = Y :- p(X, Y).\n", &["true"], 3, REFUSED),
+    ("a ; b :- c.\n", &["true"], 3, REFUSED),
+    ("! :- c.\n", &["true"], 3, REFUSED),
+    ("p :- X.\n", &["true"], 3, REFUSED),
+    ("p :- 3.\n", &["true"], 3, REFUSED),
+    ("p(X) :- q(X), X.\n", &["true"], 3, REFUSED),
+    ("p :- q ; 1.\n", &["true"], 3, REFUSED),
+    ("p :- q -> X.\n", &["true"], 3, REFUSED),
+    (
+        "a.\n% b\n\np :-\n    q,\n    7.\n",
+        &["true"],
+        3,
+        "error: line 4: fault 7.\n",
+    ),
+];
+
+const NO_COMMANDS: [Row; 24] = [
+    ("", &["a", "b"], 2, BAD_WORDS),
+    ("", &[""], 2, BAD_WORDS),
+    ("", &["3"], 2, BAD_WORDS),
+    ("", &["X"], 2, BAD_WORDS),
+    ("", &["p("], 2, BAD_WORDS),
+    ("", &["a. b."], 2, BAD_WORDS),
+    ("", &["a. 'b"], 2, BAD_WORDS),
+    ("", &[":- a"], 2, BAD_WORDS),
+    ("", &["?- a"], 2, BAD_WORDS),
+    ("", &["p, X"], 2, BAD_WORDS),
+    ("", &["1, p"], 2, BAD_WORDS),
+    ("", &["p ; 1"], 2, BAD_WORDS),
+    ("", &["X -> p"], 2, BAD_WORDS),
+    ("", &["--steps"], 2, BAD_WORDS),
+    ("", &["--steps", "0"], 2, BAD_WORDS),
+    ("", &["--steps", ""], 2, BAD_WORDS),
+    ("", &["--steps", "a"], 2, BAD_WORDS),
+    ("", &["--steps", "+7", "a"], 2, BAD_WORDS),
+    ("", &["--steps", "7 ", "a"], 2, BAD_WORDS),
+    ("", &["--steps", "100000000001", "a"], 2, BAD_WORDS),
+    ("", &["--steps", "18446744073709551617", "a"], 2, BAD_WORDS),
+    ("", &["--steps", "7", "a", "b"], 2, BAD_WORDS),
+    ("", &["--steps", "7", "--steps", "8"], 2, BAD_WORDS),
+    ("", &["a", "--steps", "7"], 2, BAD_WORDS),
+];
+
+// Texts that are loaded, without a goal.
+const LOADS: [Row; 6] = [
+    ("p(a).\n", &[], 0, ""),
+    ("p([a|T], T). q :- p(X, X), \\+ q.\n", &[], 0, ""),
+    ("p(a).\n", &["--steps", "1"], 0, ""),
+    ("p(a).\n", &["--steps", "007"], 0, ""),
+    ("p(a).\n", &["--steps", "100000000000"], 0, ""),
+    (
+        ":-(:-(a, b), c). (a --> b) :- c. 'p q'(\"r\") :- call(1).\n",
+        &[],
+        0,
+        "",
+    ),
+];
+
+const RUNS: [Row; 25] = [
+    ("", &["true"], 0, "% goal 1\ntrue.\n"),
+    ("p(a). p(b). p(c).\n", &["p(b)"], 0, "% goal 1\ntrue.\n"),
+    ("p(a). p(b). p(c).\n", &["p(b)."], 0, "% goal 1\ntrue.\n"),
+    ("p(a).", &["p(a)"], 0, "% goal 1\ntrue.\n"),
+    ("p(a).", &["p(d)"], 0, "% goal 1\nfalse.\n"),
+    (
+        "writes(a). call(a,b,c,d,e,f,g,h,i).",
+        &["true"],
+        0,
+        "% goal 1\ntrue.\n",
+    ),
+    (
+        "t(f(g(1))). t(f(g(2))).\n",
+        &["t(f(g(1)))"],
+        0,
+        "% goal 1\ntrue ;\nfalse.\n",
+    ),
+    (
+        "p(a). q(b). p(a).\n",
+        &["p(a)"],
+        0,
+        "% goal 1\ntrue ;\ntrue.\n",
+    ),
+    (
+        "",
+        &["foo(1)"],
+        1,
+        "% goal 1\nerror: error(existence_error(procedure,foo/1),foo/1).\n",
+    ),
+    ("p(a). p(b).\n", &["p(X)"], 0, "% goal 1\nX = a ;\nX = b.\n"),
+    ("", &["X = f(X)"], 0, "% goal 1\nfalse.\n"),
+    (
+        ":-(g(X),','(p(X),=(X,b))). p(a). p(b).\n",
+        &["g(X)"],
+        0,
+        "% goal 1\nX = b.\n",
+    ),
+    (
+        "g(X) :- p(X), X = b. p(a). p(b).\n",
+        &["g(X)"],
+        0,
+        "% goal 1\nX = b.\n",
+    ),
+    (
+        "loop :- loop.\n",
+        &["--steps", "10", "loop"],
+        7,
+        "% goal 1\nstopped after 10 steps.\n",
+    ),
+    (
+        "p(a). p(b).\n",
+        &["--steps", "1", "p(X)"],
+        7,
+        "% goal 1\nX = a ;\nstopped after 1 steps.\n",
+    ),
+    ("", &["X = Y"], 0, "% goal 1\nX = _1, Y = _1.\n"),
+    (
+        "p(X, Y, X).\n",
+        &["p(A, B, C)"],
+        0,
+        "% goal 1\nA = _1, B = _2, C = _1.\n",
+    ),
+    ("", &["_X = a"], 0, "% goal 1\ntrue.\n"),
+    ("", &["X = [1,2|T]"], 0, "% goal 1\nX = [1,2|_1], T = _1.\n"),
+    (
+        "",
+        &["X = {a,b}, Y = [[],{}|c]"],
+        0,
+        "% goal 1\nX = {a,b}, Y = [[],{}|c].\n",
+    ),
+    (
+        "",
+        &["X = 'a b', Y = \"ab\""],
+        0,
+        "% goal 1\nX = 'a b', Y = [97,98].\n",
+    ),
+    (
+        "",
+        &["X = - 1, Y = -1, Z = 1 - 2"],
+        0,
+        "% goal 1\nX = - 1, Y = -1, Z = 1-2.\n",
+    ),
+    ("", &["X = (=..)"], 0, "% goal 1\nX = =...\n"),
+    (
+        "app([], L, L). app([H|T], L, [H|R]) :- app(T, L, R).\n",
+        &["app(X, Y, [a])"],
+        0,
+        "% goal 1\nX = [], Y = [a] ;\nX = [a], Y = [].\n",
+    ),
+    (
+        "p(X) :- q(X).\n",
+        &["p(f(Y))"],
+        1,
+        "% goal 1\nerror: error(existence_error(procedure,q/1),q/1).\n",
+    ),
+];
+
+// Values under the operators that there are from the start, worked out from the rules of the writer.
+const WRITTEN: [Row; 31] = [
+    ("", &["X = 1 - (-1)"], 0, "% goal 1\nX = 1- -1.\n"),
+    ("", &["X = -(1)"], 0, "% goal 1\nX = - 1.\n"),
+    ("", &["X = (a:-b)"], 0, "% goal 1\nX = (a:-b).\n"),
+    ("", &["X = 'it''s'"], 0, "% goal 1\nX = 'it\\'s'.\n"),
+    ("", &["X = [a|b]"], 0, "% goal 1\nX = [a|b].\n"),
+    ("", &["X = (:- a)"], 0, "% goal 1\nX = (:-a).\n"),
+    ("", &["X = \\+a"], 2, BAD_WORDS),
+    ("", &["X = (\\+a)"], 0, "% goal 1\nX = (\\+a).\n"),
+    ("", &["X = - - 1"], 0, "% goal 1\nX = - - 1.\n"),
+    ("", &["X = -(-(1))"], 0, "% goal 1\nX = - - 1.\n"),
+    ("", &["X = 1 - 2 - 3"], 0, "% goal 1\nX = 1-2-3.\n"),
+    ("", &["X = 1-(2-3)"], 0, "% goal 1\nX = 1- (2-3).\n"),
+    ("", &["X = (a,b)"], 0, "% goal 1\nX = (a,b).\n"),
+    ("", &["X = f((a,b))"], 0, "% goal 1\nX = f((a,b)).\n"),
+    ("", &["X = f(:-)"], 0, "% goal 1\nX = f(:-).\n"),
+    ("", &["X = [-]"], 0, "% goal 1\nX = [-].\n"),
+    ("", &["X = -(-)"], 0, "% goal 1\nX = - (-).\n"),
+    ("", &["X = {a}"], 0, "% goal 1\nX = {a}.\n"),
+    ("", &["X = '{}'(a)"], 0, "% goal 1\nX = {a}.\n"),
+    ("", &["X = []"], 0, "% goal 1\nX = [].\n"),
+    ("", &["X = '[]'(a)"], 0, "% goal 1\nX = '[]'(a).\n"),
+    (
+        "",
+        &["X = 'hello world'"],
+        0,
+        "% goal 1\nX = 'hello world'.\n",
+    ),
+    ("", &["X = 'a\\nb'"], 0, "% goal 1\nX = 'a\\nb'.\n"),
+    ("", &["X = \"é\""], 0, "% goal 1\nX = [195,169].\n"),
+    (
+        "",
+        &["X = (a:-b,c;d->e)"],
+        0,
+        "% goal 1\nX = (a:-b,c;d->e).\n",
+    ),
+    ("", &["X = (dynamic a)"], 0, "% goal 1\nX = (dynamic a).\n"),
+    ("", &["X = a mod b"], 0, "% goal 1\nX = a mod b.\n"),
+    ("", &["X = (a = b)"], 0, "% goal 1\nX = (a=b).\n"),
+    ("", &["X = 2 - - 1"], 0, "% goal 1\nX = 2- - 1.\n"),
+    ("", &["X = '/*'"], 0, "% goal 1\nX = '/*'.\n"),
+    (
+        "",
+        &["X = f(A, _, A)"],
+        0,
+        "% goal 1\nX = f(_1,_2,_1), A = _1.\n",
+    ),
+];
+
+// Directives for operators.
+const OPERATORS: [Row; 16] = [
+    (
+        ":- op(700, xfx, ===>). a ===> b.\n",
+        &["'===>'(a,X)"],
+        0,
+        "% goal 1\nX = b.\n",
+    ),
+    (
+        ":- op(200, yf, mod).\n",
+        &[],
+        1,
+        "% line 1: error: error(permission_error(create,operator,mod),op/3).\n",
+    ),
+    (
+        "p(a). :- op(700, xfx, is_in).\na is_in b.\n",
+        &["is_in(a,X)"],
+        0,
+        "% goal 1\nX = b.\n",
+    ),
+    (
+        ":- op(700, xfx, =>), a => b.\n",
+        &["true"],
+        3,
+        "error: line 1: fault 7.\n",
+    ),
+    (
+        ":- op(700, xfx, [eq, [], ne]).\na eq b.\n",
+        &["true"],
+        3,
+        "% line 1: error: error(permission_error(create,operator,[]),op/3).\nerror: line 2: fault 7.\n",
+    ),
+    (
+        ":- op(700, xfx, [eq, ne]).\na eq b. a ne b.\n",
+        &["ne(a,X)"],
+        0,
+        "% goal 1\nX = b.\n",
+    ),
+    (":- op(700, xfx, []). p.\n", &["p"], 0, "% goal 1\ntrue.\n"),
+    (
+        ":- op(0, xfx, =). p(a = b).\n",
+        &["true"],
+        3,
+        "error: line 1: fault 7.\n",
+    ),
+    (
+        "p(a).\n:- op(_, xfx, eq).\n:- op(1201, xfx, eq).\n:- op(700, abc, eq).\n:- op(700, xfx, 'a b'(X,Y,X)).\np(b).\n",
+        &["p(X)"],
+        1,
+        "% line 2: error: error(instantiation_error,op/3).\n\
+            % line 3: error: error(domain_error(operator_priority,1201),op/3).\n\
+            % line 4: error: error(domain_error(operator_specifier,abc),op/3).\n\
+            % line 5: error: error(type_error(list,'a b'(_1,_2,_1)),op/3).\n\
+            % goal 1\nX = a ;\nX = b.\n",
+    ),
+    (
+        ":- op(200, xfy, ',').\n",
+        &[],
+        1,
+        "% line 1: error: error(permission_error(modify,operator,','),op/3).\n",
+    ),
+    (
+        ":- op(700, xfx, [eq, 1]). :- op(200, fy, ++). :- op(700, xfx, eq).\n",
+        &["X = [eq(a,++(b)), ++(++(c))]"],
+        1,
+        "% line 1: error: error(type_error(atom,1),op/3).\n% goal 1\nX = [a eq++b,++ ++c].\n",
+    ),
+    (
+        ":- op(700, a eq b, c).\n:- op(700, xfx, eq).\n",
+        &["true"],
+        3,
+        "error: line 1: fault 7.\n",
+    ),
+    (
+        ":- op(200, xf, ++). :- op(200, fy, ++).\n",
+        &["X = [++(a), a + (++)]"],
+        0,
+        "% goal 1\nX = [++a,a+ (++)].\n",
+    ),
+    (
+        ":- op(700, xfx).\n",
+        &["true"],
+        3,
+        "error: line 1: fault 7.\n",
+    ),
+    (":- a.\n", &["true"], 3, "error: line 1: fault 7.\n"),
+    (
+        "",
+        &["op(700, xfx, eq)"],
+        1,
+        "% goal 1\nerror: error(existence_error(procedure,op/3),op/3).\n",
+    ),
+];
+
+/// The status of a call of `top` with these words, over a base of these sizes.
+fn status_in<R: Threads + Wait + Sync, S: Source, K: Sink>(
+    rt: &R,
+    alloc: Global,
+    sizes: Sizes,
+    words: &[&str],
+    source: &mut S,
+    sink: &mut K,
+) -> Result<u8, Want>
+    requires words { (1 ≤ sizes.words) × (sizes.words ≤ 2 ^ 30) }
+    requires updates { (1 ≤ sizes.updates) × (sizes.updates < 2 ^ 24) }
+{
+    let mut strings = Vec::new(alloc);
+    for word in words {
+        strings.push(String::from_str(alloc, word)?)?;
+    }
+    let outcome = top(rt, alloc, &strings, sizes, source, sink, &OpenGate);
+    Ok(outcome.status)
+}
+
+/// The status of a call of `top` with these words.
+fn status<R: Threads + Wait + Sync, S: Source, K: Sink>(
+    rt: &R,
+    alloc: Global,
+    words: &[&str],
+    source: &mut S,
+    sink: &mut K,
+) -> Result<u8, Want> {
+    status_in(rt, alloc, SIZES, words, source, sink)
+}
+
+/// Whether `top` answers as the row says over a base of these sizes, where source and sink take so many bytes a call.
+fn is_answered_in<R: Threads + Wait + Sync>(
+    rt: &R,
+    alloc: Global,
+    sizes: Sizes,
+    row: &Row,
+    step: usize,
+) -> Result<bool, Want>
+    requires words { (1 ≤ sizes.words) × (sizes.words ≤ 2 ^ 30) }
+    requires updates { (1 ≤ sizes.updates) × (sizes.updates < 2 ^ 24) }
+    requires step { 0 < step }
+{
+    let mut source = SteadySource::new(Vec::from_slice(alloc, row.0.as_bytes())?, step);
+    let mut sink = SteadySink::new(alloc, step)?;
+    let found = status_in(rt, alloc, sizes, row.1, &mut source, &mut sink)?;
+    Ok(found == row.2 && sink.bytes() == row.3.as_bytes())
+}
+
+/// Whether `top` answers as the row says, where source and sink take so many bytes a call.
+fn is_answered<R: Threads + Wait + Sync>(
+    rt: &R,
+    alloc: Global,
+    row: &Row,
+    step: usize,
+) -> Result<bool, Want>
+    requires { 0 < step }
+{
+    is_answered_in(rt, alloc, SIZES, row, step)
+}
+
+/// Whether each row is answered, where source and sink take from one to three bytes a call.
+fn expect_rows<R: Threads + Wait + Sync + Abort>(rt: &R, alloc: Global, rows: &[Row]) {
+    for row in rows {
+        for step in 1..4 {
+            assert_eq!(rt; is_answered(rt, alloc, row, step), Ok(true), "{}", row.0);
+        }
+    }
+}
+
+#[test]
+fn answers_the_faults(rt: HostRuntime) {
+    expect_rows(&rt, rt.alloc(), &FAULTS);
+}
+
+#[test]
+fn answers_what_is_no_clause(rt: HostRuntime) {
+    expect_rows(&rt, rt.alloc(), &NO_CLAUSES);
+}
+
+#[test]
+fn answers_what_is_no_command(rt: HostRuntime) {
+    expect_rows(&rt, rt.alloc(), &NO_COMMANDS);
+}
+
+#[test]
+fn answers_what_is_written(rt: HostRuntime) {
+    expect_rows(&rt, rt.alloc(), &WRITTEN);
+}
+
+#[test]
+fn answers_the_operators(rt: HostRuntime) {
+    expect_rows(&rt, rt.alloc(), &OPERATORS);
+}
+
+#[test]
+fn answers_the_loads(rt: HostRuntime) {
+    expect_rows(&rt, rt.alloc(), &LOADS);
+}
+
+/// A text of one fact of so many arguments.
+fn wide_fact(alloc: Global, arity: u32) -> Result<Vec<u8>, Want> {
+    let mut text = Vec::from_slice(alloc, b"a.\np(0")?;
+    for _ in 1..arity {
+        text.extend_from_slice(b",0")?;
+    }
+    text.extend_from_slice(b").\n")?;
+    Ok(text)
+}
+
+#[test]
+fn a_256th_argument_is_refused(rt: HostRuntime) {
+    for (arity, expected, words) in [(255, 0, ""), (256, 3, "error: line 2: fault 9.\n")] {
+        let text = wide_fact(rt.alloc(), arity).expect(&rt, "memory");
+        let mut source = SteadySource::new(text, 4096);
+        let mut sink = SteadySink::new(rt.alloc(), 100).expect(&rt, "memory");
+        assert_eq!(rt;
+            status(&rt, rt.alloc(), &[], &mut source, &mut sink),
+            Ok(expected)
+        );
+        assert!(rt; sink.bytes() == words.as_bytes());
+    }
+}
+
+#[test]
+fn answers_the_runs(rt: HostRuntime) {
+    expect_rows(&rt, rt.alloc(), &RUNS);
+}
+
+// A declaration needs 16 words, and one for a name of up to 8 bytes: 17 for `p/1` and for `q/1`. The fact `p(a)` needs 4
+// words for its entry and 2 for its clause, 1 for the key at its argument, 2 for each of its two nodes (one of them for the
+// name) and 2 for the body `true`: 13. The fact `p(ccccccccc)`, whose argument has 9 bytes, needs 14.
+
+/// So many words, and what a text leads to there.
+type WordsRow = (u64, Row);
+
+const FACTS: &str = "p(a).\np(b).\np(ccccccccc).\np(d).\n";
+
+const TWO_PROCEDURES: &str = "p(a).\nq(a).\n";
+
+const SMALL_WORDS: [WordsRow; 9] = [
+    // 17 + 13 + 13 = 43 words are used where the third fact needs 14 more, which is one too many; the fourth needs 13.
+    (
+        56,
+        (
+            FACTS,
+            &["p(d)"],
+            1,
+            "% line 3: error: error(resource_error(database),assertz/1).\n% goal 1\ntrue.\n",
+        ),
+    ),
+    (
+        56,
+        (
+            FACTS,
+            &["p(ccccccccc)"],
+            1,
+            "% line 3: error: error(resource_error(database),assertz/1).\n% goal 1\nfalse.\n",
+        ),
+    ),
+    (
+        56,
+        (
+            FACTS,
+            &[],
+            1,
+            "% line 3: error: error(resource_error(database),assertz/1).\n",
+        ),
+    ),
+    // With one word more the third fact fits, and nothing is left for the fourth.
+    (
+        57,
+        (
+            FACTS,
+            &[],
+            1,
+            "% line 4: error: error(resource_error(database),assertz/1).\n",
+        ),
+    ),
+    // All that there is: 17 + 13 + 13 + 14 + 13.
+    (70, (FACTS, &[], 0, "")),
+    // 17 + 13 + 17 = 47 words are used where `q(a)` needs 13 more: `q/1` stays declared.
+    (
+        59,
+        (
+            TWO_PROCEDURES,
+            &["q(a)"],
+            1,
+            "% line 2: error: error(resource_error(database),assertz/1).\n% goal 1\nfalse.\n",
+        ),
+    ),
+    // 17 + 13 = 30 words are used where `q/1` needs 17 more: it isn't declared.
+    (
+        46,
+        (
+            TWO_PROCEDURES,
+            &["q(a)"],
+            1,
+            "% line 2: error: error(resource_error(database),assertz/1).\n\
+                % goal 1\nerror: error(existence_error(procedure,q/1),q/1).\n",
+        ),
+    ),
+    (60, (TWO_PROCEDURES, &["q(a)"], 0, "% goal 1\ntrue.\n")),
+    (
+        1,
+        (
+            "a.\n\nb.\n3.\n",
+            &["true"],
+            3,
+            "% line 1: error: error(resource_error(database),assertz/1).\n\
+                % line 3: error: error(resource_error(database),assertz/1).\n\
+                error: line 4: fault 7.\n",
+        ),
+    ),
+];
+
+// The declaration of `p/1` and its first fact are two updates.
+const TWO_UPDATES: [Row; 4] = [
+    ("p(a).\n", &[], 0, ""),
+    (
+        "p(a).\np(b).\nq.\n",
+        &["p(a)"],
+        1,
+        "% line 2: error: error(resource_error(database),assertz/1).\n\
+            % line 3: error: error(resource_error(database),assertz/1).\n\
+            % goal 1\ntrue.\n",
+    ),
+    (
+        "p(a).\np(b).\n",
+        &[],
+        1,
+        "% line 2: error: error(resource_error(database),assertz/1).\n",
+    ),
+    (
+        "p(a).\np(b).\n3.\nq.\n",
+        &["p(a)"],
+        3,
+        "% line 2: error: error(resource_error(database),assertz/1).\n\
+            error: line 3: fault 7.\n",
+    ),
+];
+
+fn is_answered_in_words<R: Threads + Wait + Sync>(
+    rt: &R,
+    alloc: Global,
+    row: &WordsRow,
+) -> Result<bool, Want> {
+    let sizes = Sizes {
+        words: row.0.clamp(1, 1000),
+        updates: 1000,
+    };
+    is_answered_in(rt, alloc, sizes, &row.1, 7)
+}
+
+#[test]
+fn loads_into_few_words(rt: HostRuntime) {
+    for row in &SMALL_WORDS {
+        assert_eq!(rt;
+            is_answered_in_words(&rt, rt.alloc(), row),
+            Ok(true),
+            "{} words: {}",
+            row.0,
+            row.1.0
+        );
+    }
+}
+
+#[test]
+fn loads_into_two_updates(rt: HostRuntime) {
+    let sizes = Sizes {
+        words: 1000,
+        updates: 2,
+    };
+    for row in &TWO_UPDATES {
+        assert_eq!(rt;
+            is_answered_in(&rt, rt.alloc(), sizes, row, 7),
+            Ok(true),
+            "{}",
+            row.0
+        );
+    }
+}
+
+const TEXT: &[u8] = b"p(a). p(b). p(c).";
+
+const WHOLE: &[u8] = b"% goal 1\ntrue.\n";
+
+/// The source gives five bytes a call, and is asked a fifth time for the end.
+#[test]
+fn a_source_that_fails_at_any_call(rt: HostRuntime) {
+    for call in 1..7 {
+        let bytes = Vec::from_slice(rt.alloc(), TEXT).expect(&rt, "memory");
+        let fails = Vec::from_slice(rt.alloc(), &[call]).expect(&rt, "memory");
+        let mut source = MemorySource::new(bytes, 5, fails);
+        let mut sink = SteadySink::new(rt.alloc(), 100).expect(&rt, "memory");
+        let status = status(&rt, rt.alloc(), &["p(b)"], &mut source, &mut sink);
+        if call <= 5 {
+            assert_eq!(rt; status, Ok(4), "call {call}");
+            assert!(rt; sink.bytes() == b"error: source.\n".as_slice());
+        } else {
+            assert_eq!(rt; status, Ok(0), "call {call}");
+            assert!(rt; sink.bytes() == WHOLE);
+        }
+    }
+}
+
+/// The sink takes three bytes a call, and is called five times for fifteen.
+#[test]
+fn a_sink_that_fails_at_any_call(rt: HostRuntime) {
+    for call in 1..7 {
+        let bytes = Vec::from_slice(rt.alloc(), TEXT).expect(&rt, "memory");
+        let fails = Vec::from_slice(rt.alloc(), &[call]).expect(&rt, "memory");
+        let mut source = SteadySource::new(bytes, 5);
+        let mut sink = MemorySink::new(rt.alloc(), 3, 100, fails).expect(&rt, "memory");
+        let expected = if call <= 5 { 5 } else { 0 };
+        let status = status(&rt, rt.alloc(), &["p(b)"], &mut source, &mut sink);
+        assert_eq!(rt; status, Ok(expected), "call {call}");
+        let taken = ((call as usize - 1) * 3).min(WHOLE.len());
+        assert!(rt; sink.bytes() == &WHOLE[..taken], "call {call}");
+    }
+}
+
+#[test]
+fn a_sink_that_takes_three_bytes(rt: HostRuntime) {
+    let mut source = SteadySource::new(Vec::new(rt.alloc()), 1);
+    let mut sink = MemorySink::new(rt.alloc(), 100, 3, Vec::new(rt.alloc())).expect(&rt, "memory");
+    assert_eq!(rt;
+        status(&rt, rt.alloc(), &["true"], &mut source, &mut sink),
+        Ok(5)
+    );
+    assert!(rt; sink.bytes() == b"% g".as_slice());
+}
+
+#[test]
+fn a_text_that_is_too_long(rt: HostRuntime) {
+    let bytes = vec![in rt.alloc(); b'a'; MAX_TEXT + 1].expect(&rt, "memory");
+    let mut source = SteadySource::new(bytes, 4096);
+    let mut sink = SteadySink::new(rt.alloc(), 100).expect(&rt, "memory");
+    assert_eq!(rt;
+        status(&rt, rt.alloc(), &["true"], &mut source, &mut sink),
+        Ok(8)
+    );
+    assert!(rt; sink.bytes() == b"error: text too long.\n".as_slice());
+}
+
+/// A gate that counts its passes, and keeps the engine and the look of the last one.
+#[derive(Drop)]
+struct CountingGate {
+    passes: Cell<u64>,
+    engine: Cell<u32>,
+    look: Cell<u64>,
+}
+
+impl Gate for CountingGate {
+    fn pass<R: Wait>(&self, _rt: &R, engine: u32, look: u64) {
+        self.passes.set(self.passes.get().saturating_add(1));
+        self.engine.set(engine);
+        self.look.set(look);
+    }
+}
+
+/// The text of the run of this word over two equal facts, in so many steps at most.
+fn run_within<R: Wait, G: Gate>(
+    rt: &R,
+    alloc: Global,
+    gate: &G,
+    word: &str,
+    steps: &str,
+) -> Result<Vec<u8>, Want> {
+    let ops = Ops::initial(alloc)?;
+    let mut words = Vec::new(alloc);
+    for word in ["--steps", steps, word] {
+        words.push(String::from_str(alloc, word)?)?;
+    }
+    let command = match read_command(alloc, &ops, &words)? {
+        Some(command) => command,
+        None => return Err(Want),
+    };
+    let load = load_text(rt, alloc, SIZES, b"p(a). p(a).")?;
+    let ran = run_command(rt, alloc, gate, command, load)?;
+    output(alloc, &ran.ops, ran.runs.items())
+}
+
+#[test]
+fn a_run_spends_its_budget(rt: HostRuntime) {
+    for (steps, text) in [
+        ("1", "% goal 1\ntrue ;\nstopped after 1 steps.\n"),
+        ("2", "% goal 1\ntrue ;\ntrue.\n"),
+        ("003", "% goal 1\ntrue ;\ntrue.\n"),
+    ] {
+        let written = run_within(&rt, rt.alloc(), &OpenGate, "p(a)", steps);
+        assert!(rt;
+            matches!(&written, Ok(bytes) if bytes.as_slice() == text.as_bytes()),
+            "{steps} steps"
+        );
+    }
+}
+
+#[test]
+fn a_look_passes_the_gate(rt: HostRuntime) {
+    for (word, passes, engine) in [
+        ("p(a)", 1, 1),
+        ("p(b)", 1, 1),
+        ("true", 0, 0),
+        ("p(a), p(a)", 3, 1),
+    ] {
+        let gate = CountingGate {
+            passes: Cell::new(0),
+            engine: Cell::new(0),
+            look: Cell::new(0),
+        };
+        let written = run_within(&rt, rt.alloc(), &gate, word, "10");
+        assert!(rt; written.is_ok());
+        assert_eq!(rt; gate.passes.get(), passes, "{word}");
+        assert_eq!(rt; gate.look.get(), passes, "{word}");
+        assert_eq!(rt; gate.engine.get(), engine, "{word}");
+    }
+}

@@ -1,0 +1,316 @@
+// Worked rows.
+
+use crate::texts::output;
+use journal_base::Tally;
+use prolog_terms::{Name, Node, OpKind, Ops, Shown, ShownVariables, Term, Want, Whole};
+use std::alloc::Global;
+use std::test::Fail;
+use wam_machine::{Event, Events, Fronts, Run, RunEnd};
+
+// A node, in a table.
+#[derive(Clone, Copy)]
+enum Piece {
+    Var(u64),
+    Int(Whole),
+    Atom(&'static str),
+    Functor(&'static str, u32),
+}
+
+fn node_of(alloc: Global, piece: Piece) -> Result<Node, Want> {
+    Ok(match piece {
+        Piece::Var(number) => Node::Var(number),
+        Piece::Int(whole) => Node::Int(whole),
+        Piece::Atom(name) => Node::Atom(Name::of(alloc, name.as_bytes())?),
+        Piece::Functor(name, arity) => Node::Functor(Name::of(alloc, name.as_bytes())?, arity),
+    })
+}
+
+fn term_of(alloc: Global, pieces: &[Piece]) -> Result<Term, Want> {
+    let mut nodes = Vec::new(alloc);
+    for piece in pieces {
+        nodes.push(node_of(alloc, *piece)?)?;
+    }
+    Term::of_nodes(nodes).map_err(|_| Want)
+}
+
+// An answer with these values, which a list ends.
+fn answer(alloc: Global, values: &[Piece], left: bool) -> Result<Event, Want> {
+    Ok(Event::Answer {
+        values: term_of(alloc, values)?,
+        left,
+    })
+}
+
+const NO_VALUES: [Piece; 1] = [Piece::Atom("[]")];
+
+// Answers that show no variable.
+fn plain_answers(alloc: Global, lefts: &[bool]) -> Result<Vec<Event>, Want> {
+    let mut events = Vec::new(alloc);
+    for left in lefts {
+        events.push(answer(alloc, &NO_VALUES, *left)?)?;
+    }
+    Ok(events)
+}
+
+// A run of a goal in which these variables are shown.
+fn run_with(alloc: Global, names: &[&str], events: Vec<Event>, end: RunEnd) -> Result<Run, Want> {
+    let mut shown = Vec::new(alloc);
+    for name in names {
+        shown.push(Shown {
+            name: Name::of(alloc, name.as_bytes())?,
+            var: 0,
+        })?;
+    }
+    Ok(Run {
+        engine: 1,
+        line: 0,
+        shown: ShownVariables::from_vec(shown),
+        transcript: Events::of(events),
+        fronts: Fronts::of(Vec::new(alloc)),
+        tally: Tally::new(),
+        steps: 0,
+        end,
+    })
+}
+
+fn run_of(alloc: Global, lefts: &[bool], end: RunEnd) -> Result<Run, Want> {
+    run_with(alloc, &[], plain_answers(alloc, lefts)?, end)
+}
+
+// Whether this is the text of one run.
+fn has_text(alloc: Global, ops: &Ops, run: Run, line: &str) -> Result<bool, Want> {
+    let mut runs = Vec::new(alloc);
+    runs.push(run)?;
+    let text = output(alloc, ops, &runs)?;
+    let mut words = Vec::from_slice(alloc, b"% goal 1\n".as_slice())?;
+    words.extend_from_slice(line.as_bytes())?;
+    words.extend_from_slice(b".\n".as_slice())?;
+    Ok(text.as_slice() == words.as_slice())
+}
+
+// The run that shows X with this value.
+fn run_with_value(alloc: Global, value: &[Piece]) -> Result<Run, Want> {
+    let mut values = Vec::new(alloc);
+    values.push(Piece::Functor(".", 2))?;
+    values.extend_from_slice(value)?;
+    values.push(Piece::Atom("[]"))?;
+    let mut events = Vec::new(alloc);
+    events.push(answer(alloc, &values, false)?)?;
+    run_with(alloc, &["X"], events, RunEnd::Exhausted)
+}
+
+// Whether this is the line of an answer with this value.
+fn shows(alloc: Global, ops: &Ops, value: &[Piece], line: &str) -> Result<bool, Want> {
+    has_text(alloc, ops, run_with_value(alloc, value)?, line)
+}
+
+// Whether this is the line of an end in this ball.
+fn raises(alloc: Global, ops: &Ops, ball: &[Piece], line: &str) -> Result<bool, Want> {
+    let none: [bool; 0] = [];
+    let end = RunEnd::Ball(term_of(alloc, ball)?);
+    has_text(alloc, ops, run_of(alloc, &none, end)?, line)
+}
+
+#[test]
+fn writes_values_with_operators(rt: HostRuntime) -> Result<(), Fail> {
+    let alloc = rt.alloc();
+    let ops = Ops::initial(alloc)?;
+    let clause = [Piece::Functor(":-", 2), Piece::Atom("a"), Piece::Atom("b")];
+    assert!(rt; shows(alloc, &ops, &clause, "X = (a:-b)")?);
+    let less = [Piece::Functor("-", 2), Piece::Int(1), Piece::Int(-1)];
+    assert!(rt; shows(alloc, &ops, &less, "X = 1- -1")?);
+    let negated = [Piece::Functor("-", 1), Piece::Int(1)];
+    assert!(rt; shows(alloc, &ops, &negated, "X = - 1")?);
+    let pair = [Piece::Functor(",", 2), Piece::Atom("a"), Piece::Atom("b")];
+    assert!(rt; shows(alloc, &ops, &pair, "X = (a,b)")?);
+    let word = [Piece::Functor("dynamic", 1), Piece::Atom("a")];
+    assert!(rt; shows(alloc, &ops, &word, "X = (dynamic a)")?);
+    Ok(())
+}
+
+#[test]
+fn writes_operators_inside_values(rt: HostRuntime) -> Result<(), Fail> {
+    let alloc = rt.alloc();
+    let ops = Ops::initial(alloc)?;
+    let pair = [
+        Piece::Functor("f", 1),
+        Piece::Functor(",", 2),
+        Piece::Atom("a"),
+        Piece::Atom("b"),
+    ];
+    assert!(rt; shows(alloc, &ops, &pair, "X = f((a,b))")?);
+    let argument = [Piece::Functor("f", 1), Piece::Atom(":-")];
+    assert!(rt; shows(alloc, &ops, &argument, "X = f(:-)")?);
+    let element = [Piece::Functor(".", 2), Piece::Atom("-"), Piece::Atom("[]")];
+    assert!(rt; shows(alloc, &ops, &element, "X = [-]")?);
+    let operand = [Piece::Functor("-", 1), Piece::Atom("-")];
+    assert!(rt; shows(alloc, &ops, &operand, "X = - (-)")?);
+    Ok(())
+}
+
+#[test]
+fn writes_values_in_brackets_and_quotes(rt: HostRuntime) -> Result<(), Fail> {
+    let alloc = rt.alloc();
+    let ops = Ops::initial(alloc)?;
+    let partial = [Piece::Functor(".", 2), Piece::Atom("a"), Piece::Atom("b")];
+    assert!(rt; shows(alloc, &ops, &partial, "X = [a|b]")?);
+    assert!(rt; shows(alloc, &ops, &[Piece::Atom("it's")], "X = 'it\\'s'")?);
+    let braces = [Piece::Functor("{}", 1), Piece::Atom("a")];
+    assert!(rt; shows(alloc, &ops, &braces, "X = {a}")?);
+    let brackets = [Piece::Functor("[]", 1), Piece::Atom("a")];
+    assert!(rt; shows(alloc, &ops, &brackets, "X = '[]'(a)")?);
+    Ok(())
+}
+
+const NOT_CALLABLE: [Piece; 9] = [
+    Piece::Functor("error", 2),
+    Piece::Functor("type_error", 2),
+    Piece::Atom("callable"),
+    Piece::Functor(",", 2),
+    Piece::Atom("foo"),
+    Piece::Int(1),
+    Piece::Functor("/", 2),
+    Piece::Atom("call"),
+    Piece::Int(1),
+];
+
+#[test]
+fn writes_balls(rt: HostRuntime) -> Result<(), Fail> {
+    let alloc = rt.alloc();
+    let ops = Ops::initial(alloc)?;
+    let line = "error: error(type_error(callable,(foo,1)),call/1)";
+    assert!(rt; raises(alloc, &ops, &NOT_CALLABLE, line)?);
+    let clause = [Piece::Functor(":-", 2), Piece::Atom("a"), Piece::Atom("b")];
+    assert!(rt; raises(alloc, &ops, &clause, "error: a:-b")?);
+    Ok(())
+}
+
+const LIKES: [Piece; 3] = [
+    Piece::Functor("likes", 2),
+    Piece::Atom("a"),
+    Piece::Atom("b"),
+];
+
+#[test]
+fn writes_under_the_table(rt: HostRuntime) -> Result<(), Fail> {
+    let alloc = rt.alloc();
+    let mut ops = Ops::initial(alloc)?;
+    assert!(rt; shows(alloc, &ops, &LIKES, "X = likes(a,b)")?);
+    let name = Name::of(alloc, b"likes")?;
+    ops.declare(700, OpKind::Xfx, &name).map_err(|_| Want)?;
+    assert!(rt; shows(alloc, &ops, &LIKES, "X = (a likes b)")?);
+    assert!(rt; raises(alloc, &ops, &LIKES, "error: a likes b")?);
+    Ok(())
+}
+
+#[test]
+fn writes_deep_values(rt: HostRuntime) -> Result<(), Fail> {
+    let alloc = rt.alloc();
+    let ops = Ops::initial(alloc)?;
+    let mut value = Vec::new(alloc);
+    let mut words = Vec::from_slice(alloc, b"% goal 1\nX = ".as_slice())?;
+    for _ in 0..100_000 {
+        value.push(Piece::Functor("f", 1))?;
+        words.extend_from_slice(b"f(")?;
+    }
+    value.push(Piece::Var(0))?;
+    words.extend_from_slice(b"_1")?;
+    for _ in 0..100_000 {
+        words.push(b')')?;
+    }
+    words.extend_from_slice(b".\n")?;
+    let mut runs = Vec::new(alloc);
+    runs.push(run_with_value(alloc, &value)?)?;
+    let text = output(alloc, &ops, &runs)?;
+    assert!(rt; text.as_slice() == words.as_slice());
+    Ok(())
+}
+
+#[test]
+fn writes_runs(rt: HostRuntime) -> Result<(), Fail> {
+    let alloc = rt.alloc();
+    let ops = Ops::initial(alloc)?;
+    let ball = term_of(alloc, &[Piece::Functor("oops", 1), Piece::Var(1)])?;
+    let none: [bool; 0] = [];
+    let mut runs = Vec::new(alloc);
+    assert_eq!(rt; output(alloc, &ops, &runs)?.len(), 0);
+    runs.push(run_of(alloc, &none, RunEnd::Exhausted)?)?;
+    runs.push(run_of(alloc, &[true, false], RunEnd::Exhausted)?)?;
+    runs.push(run_of(alloc, &[true, true], RunEnd::Exhausted)?)?;
+    runs.push(run_of(alloc, &[true], RunEnd::Ball(ball))?)?;
+    runs.push(run_of(alloc, &none, RunEnd::Spent(7))?)?;
+    runs.push(run_of(alloc, &[false], RunEnd::Want)?)?;
+    let text = output(alloc, &ops, &runs)?;
+    let words = "% goal 1\nfalse.\n\
+        % goal 2\ntrue ;\ntrue.\n\
+        % goal 3\ntrue ;\ntrue ;\nfalse.\n\
+        % goal 4\ntrue ;\nerror: oops(_2).\n\
+        % goal 5\nstopped after 7 steps.\n\
+        % goal 6\ntrue.\n";
+    assert!(rt; text.as_slice() == words.as_bytes());
+    Ok(())
+}
+
+const FIRST_VALUES: [Piece; 8] = [
+    Piece::Functor(".", 2),
+    Piece::Functor("f", 1),
+    Piece::Var(0),
+    Piece::Functor(".", 2),
+    Piece::Functor(".", 2),
+    Piece::Var(0),
+    Piece::Var(1),
+    Piece::Atom("[]"),
+];
+
+const SECOND_VALUES: [Piece; 5] = [
+    Piece::Functor(".", 2),
+    Piece::Atom("a b"),
+    Piece::Functor(".", 2),
+    Piece::Int(-7),
+    Piece::Atom("[]"),
+];
+
+#[test]
+fn writes_answers(rt: HostRuntime) -> Result<(), Fail> {
+    let alloc = rt.alloc();
+    let ops = Ops::initial(alloc)?;
+    let mut events = Vec::new(alloc);
+    events.push(answer(alloc, &FIRST_VALUES, true)?)?;
+    events.push(answer(alloc, &SECOND_VALUES, false)?)?;
+    let mut runs = Vec::new(alloc);
+    runs.push(run_with(alloc, &["X", "Tail"], events, RunEnd::Exhausted)?)?;
+    let text = output(alloc, &ops, &runs)?;
+    let words = "% goal 1\nX = f(_1), Tail = [_1|_2] ;\nX = 'a b', Tail = -7.\n";
+    assert!(rt; text.as_slice() == words.as_bytes());
+    Ok(())
+}
+
+// The run of a read-term of the load in this line.
+fn load_run_of(alloc: Global, line: u64, ball: Term) -> Result<Run, Want> {
+    let none: [bool; 0] = [];
+    let mut run = run_of(alloc, &none, RunEnd::Ball(ball))?;
+    run.engine = 0;
+    run.line = line;
+    Ok(run)
+}
+
+#[test]
+fn writes_the_load_first(rt: HostRuntime) -> Result<(), Fail> {
+    let alloc = rt.alloc();
+    let ops = Ops::initial(alloc)?;
+    let small = term_of(alloc, &[Piece::Int(-5)])?;
+    let nested = term_of(alloc, &[Piece::Functor("oops", 1), Piece::Var(1)])?;
+    let none: [bool; 0] = [];
+    let mut runs = Vec::new(alloc);
+    runs.push(load_run_of(alloc, 1, small)?)?;
+    runs.push(run_of(alloc, &none, RunEnd::Exhausted)?)?;
+    runs.push(load_run_of(alloc, 300, nested)?)?;
+    runs.push(run_of(alloc, &[false], RunEnd::Exhausted)?)?;
+    let text = output(alloc, &ops, &runs)?;
+    let words = "% line 1: error: -5.\n\
+        % line 300: error: oops(_2).\n\
+        % goal 1\nfalse.\n\
+        % goal 2\ntrue.\n";
+    assert!(rt; text.as_slice() == words.as_bytes());
+    Ok(())
+}

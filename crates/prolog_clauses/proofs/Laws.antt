@@ -1,18 +1,19 @@
 -- What the clause of a term is.
-use Rattle.std.proofs.Common.{◌≡◌, ℕ, ◌+◌, ◌<◌, List, [], ◌∷◌, ◌++◌, Bool, true, false, ◌||◌, nat_eq, nat_lt, if◌then◌else◌, length, Some, refl, sym, ap, ◌∙◌, subst, length-append, arith}
-use Rattle.std.specs.Prelude.{IsTrue, is_some, option_and_then}
+use Rattle.std.proofs.Common.{◌≡◌, ℕ, ◌+◌, ◌<◌, List, [], ◌∷◌, ◌++◌, Bool, true, false, ◌||◌, nat_eq, nat_lt, if◌then◌else◌, length, Option, None, Some, refl, sym, ap, ◌∙◌, subst, length-append, arith}
+use Rattle.std.specs.Prelude.{IsTrue, is_some, option_and_then, option_map, IfSome}
 use Rattle.std.specs.List.{list_any}
 use Rattle.std.proofs.lemmas.Bool.{eqb-true, eq-eqb, lt-ltb, or_right, true≢false}
 use Rattle.std.proofs.lemmas.Bool.Decides.{nat_tests}
 use Rattle.prolog_terms.specs.Tree.{Tree, Trees, variable, integer, atom, compound, none, more}
 use Rattle.prolog_terms.specs.Variables.{met_after, all_met_after, AreNumbered}
 use Rattle.prolog_terms.specs.Indicators.{indicator_of}
-use Rattle.prolog_terms.specs.Clauses.{IsClause, is_body}
+use Rattle.prolog_terms.specs.Clauses.{IsClause, is_body, body_of}
 use Rattle.prolog_terms.specs.declared.entry.Clause.{Clause}
 use Rattle.prolog_clauses.specs.Renaming.{renamed, all_renamed, occurs, occurs_in_some, with_variable, variables_after, all_variables_after, place_of}
-use Rattle.prolog_clauses.specs.Formed.{Parts, parts_of, variables_of, number_in, numbered, with_body, by_head, clause_of, OccursIn, IsRenaming}
-use Rattle.prolog_clauses.specs.declared.clause.Formed.TheVariants.{Clause as Made, Refused}
-use Rattle.prolog_clauses.specs.declared.clause.NoClause.TheVariants.{NoBody}
+use Rattle.prolog_clauses.specs.Formed.{Parts, rule, parts_of, variables_of, number_in, numbered, with_body, by_head, clause_of, OccursIn, IsRenaming}
+use Rattle.prolog_clauses.specs.declared.clause.Formed.TheVariants.{Clause as Made}
+use Rattle.prolog_terms.proofs.Converted.{is_converted}
+use Rattle.prolog_clauses.proofs.Converted.{occurs_in_body}
 use Rattle.prolog_clauses.proofs.Numberings.{Begins, begins_itself, begins_later, begins_after, begins_after_all, place_kept, place_absent}
 
 made_same : (c d : Clause) → Made c ≡ Made d → c ≡ d
@@ -20,15 +21,15 @@ made_same c d e = cc
 
 -- ---- a term gives a clause only where its parts are right
 
-pub made_head : (h : Tree) (p : Parts) (c : Clause) → by_head h p ≡ Made c → IsTrue (is_some (indicator_of h)) × (with_body p ≡ Made c)
+pub made_head : (h : Tree) (p : Parts) (c : Clause) → by_head h p ≡ Made c → IsTrue (is_some (indicator_of h)) × (with_body p (body_of p.body) ≡ Made c)
 made_head (variable n) p c e = absurd cc
 made_head (integer z) p c e = absurd cc
 made_head (atom a) p c e = (refl, e)
 made_head (compound f ts) p c e = (refl, e)
 
-pub made_body : (p : Parts) (c : Clause) (b : Bool) → is_body p.body ≡ b → (if b then Made (numbered p) else Refused NoBody) ≡ Made c → IsTrue (is_body p.body) × (c ≡ numbered p)
-made_body p c true e f = (e, sym (made_same (numbered p) c f))
-made_body p c false e f = absurd cc
+pub made_body : (p : Parts) (o : Option Tree) (c : Clause) → with_body p o ≡ Made c → (b : Tree) × ((o ≡ Some b) × (c ≡ numbered (rule p.head b)))
+made_body p None c e = absurd cc
+made_body p (Some b) c e = (b, (refl, sym (made_same (numbered (rule p.head b)) c e)))
 
 -- ---- other numbers change neither head nor body
 
@@ -152,8 +153,15 @@ place_one v w (m ∷ ms) e f same = one_at v w m ms (nat_eq v m) (nat_eq w m) re
 clause_numbered : (p : Parts) → IsTrue (is_some (indicator_of p.head)) → IsTrue (is_body p.body) → IsClause (numbered p)
 clause_numbered p h b = record { head = indicator-renamed (number_in p) p.head ∙ h; body = body-renamed (number_in p) p.body ∙ b; numbered = are_numbered p }
 
-renaming_numbered : (p : Parts) → IsRenaming p (numbered p)
-renaming_numbered p =
+-- the same of parts whose body stays as it is
+pub record Renames (p : Parts) (c : Clause) : Type 0 where
+  pub number : ℕ → ℕ
+  pub head : c.head ≡ renamed number p.head
+  pub body : c.body ≡ renamed number p.body
+  pub one_to_one : (v w : ℕ) → OccursIn v p → OccursIn w p → number v ≡ number w → v ≡ w
+
+renames_numbered : (p : Parts) → Renames p (numbered p)
+renames_numbered p =
     record {
       number = number_in p;
       head = refl;
@@ -161,16 +169,43 @@ renaming_numbered p =
       one_to_one = λ v w o q e. place_one v w (variables_of p) (met_in_parts v p o) (met_in_parts w p q) e;
     }
 
+occurs_called : (v : ℕ) (p : Parts) (b : Tree) → body_of p.body ≡ Some b → OccursIn v p → OccursIn v (rule p.head b)
+occurs_called v p b e o = ap (λ x. occurs v p.head || x) (occurs_in_body v p.body b e) ∙ o
+
+occurs_before : (v : ℕ) (p : Parts) (b : Tree) → body_of p.body ≡ Some b → OccursIn v (rule p.head b) → OccursIn v p
+occurs_before v p b e o = sym (ap (λ x. occurs v p.head || x) (occurs_in_body v p.body b e)) ∙ o
+
+is_renaming : (p : Parts) (b : Tree) (c : Clause) → body_of p.body ≡ Some b → Renames (rule p.head b) c → IsRenaming p c
+is_renaming p b c e r =
+    record {
+      number = r.number;
+      head = r.head;
+      body = ap Some r.body ∙ sym (ap (option_map (renamed r.number)) e);
+      one_to_one = λ v w o q. r.one_to_one v w (occurs_called v p b e o) (occurs_called w p b e q);
+    }
+
+some_same : (t u : Tree) → Some t ≡ Some u → t ≡ u
+some_same t u e = cc
+
+pub renames : (p : Parts) (b : Tree) (c : Clause) → body_of p.body ≡ Some b → IsRenaming p c → Renames (rule p.head b) c
+renames p b c e r =
+    record {
+      number = r.number;
+      head = r.head;
+      body = some_same c.body (renamed r.number b) (r.body ∙ ap (option_map (renamed r.number)) e);
+      one_to_one = λ v w o q. r.one_to_one v w (occurs_before v p b e o) (occurs_before w p b e q);
+    }
+
 pub made_clause : (t : Tree) (c : Clause) → clause_of t ≡ Made c → IsClause c
 made_clause t c e =
     let p = parts_of t in
     let h = made_head p.head p c e in
-    let b = made_body p c (is_body p.body) refl h.1 in
-    subst IsClause (sym b.1) (clause_numbered p h.0 b.0)
+    let m = made_body p (body_of p.body) c h.1 in
+    let body : IsTrue (is_body m.0) = subst (λ o. IfSome o (λ b. IsTrue (is_body b))) m.1.0 (is_converted p.body) in
+    subst IsClause (sym m.1.1) (clause_numbered (rule p.head m.0) h.0 body)
 
 pub made_renaming : (t : Tree) (c : Clause) → clause_of t ≡ Made c → IsRenaming (parts_of t) c
 made_renaming t c e =
     let p = parts_of t in
-    let h = made_head p.head p c e in
-    let b = made_body p c (is_body p.body) refl h.1 in
-    subst (IsRenaming p) (sym b.1) (renaming_numbered p)
+    let m = made_body p (body_of p.body) c (made_head p.head p c e).1 in
+    is_renaming p m.0 c m.1.0 (subst (Renames (rule p.head m.0)) (sym m.1.1) (renames_numbered (rule p.head m.0)))

@@ -1,5 +1,7 @@
 mod Spans
 mod Bodies
+mod BodyNodes
+mod Converted
 mod Numberings
 mod Rules
 pub mod Laws
@@ -11,3 +13,4 @@ mod Declared
 mod Firsts
 mod Names
 mod Priorities
+mod Arguments

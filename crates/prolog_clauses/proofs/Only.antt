@@ -5,12 +5,12 @@ use Rattle.std.specs.List.{list_any}
 use Rattle.std.proofs.lemmas.Bool.{eqb-true, eqb-false, eq-eqb, ltb-true, or_left, or_right, true≢false}
 use Rattle.prolog_terms.specs.Tree.{Tree, Trees, variable, integer, atom, compound, none, more}
 use Rattle.prolog_terms.specs.Variables.{met_after, all_met_after, AreNumbered}
-use Rattle.prolog_terms.specs.Clauses.{IsClause, is_body}
+use Rattle.prolog_terms.specs.Clauses.{IsClause, body_of}
 use Rattle.prolog_terms.specs.declared.entry.Clause.{Clause}
 use Rattle.prolog_clauses.specs.Renaming.{renamed, all_renamed, occurs, occurs_in_some, with_variable, variables_after, all_variables_after, place_of}
-use Rattle.prolog_clauses.specs.Formed.{Parts, parts_of, variables_of, number_in, numbered, clause_of, OccursIn, IsRenaming}
+use Rattle.prolog_clauses.specs.Formed.{Parts, rule, parts_of, variables_of, number_in, numbered, clause_of, OccursIn, IsRenaming}
 use Rattle.prolog_clauses.specs.declared.clause.Formed.TheVariants.{Clause as Made}
-use Rattle.prolog_clauses.proofs.Laws.{place_within, met_in_parts, made_head, made_body}
+use Rattle.prolog_clauses.proofs.Laws.{place_within, met_in_parts, made_head, made_body, Renames, renames}
 
 -- the numbers of a list's variables go up from k
 abbrev Counts : (ℕ → ℕ) → ℕ → List ℕ → Type 0
@@ -140,7 +140,7 @@ mutual
       ap (λ u. more u (all_renamed f ts)) (renamed_alike f g t (λ v q. h v (or_left (occurs v t) (occurs_in_some v ts) q)))
       ∙ ap (more (renamed g t)) (all_renamed_alike f g ts (λ v q. h v (or_right (occurs v t) (occurs_in_some v ts) q)))
 
-numbered_only : (p : Parts) (d : Clause) → IsClause d → IsRenaming p d → d ≡ numbered p
+numbered_only : (p : Parts) (d : Clause) → IsClause d → Renames p d → d ≡ numbered p
 numbered_only p d h r =
     let g = r.number in
     let n : AreNumbered (renamed g p.head) (renamed g p.body) d.vars = subst (λ t. AreNumbered (renamed g p.head) t d.vars) r.body (subst (λ t. AreNumbered t d.body d.vars) r.head h.numbered) in
@@ -154,5 +154,5 @@ numbered_only p d h r =
 pub made_only : (t : Tree) (c d : Clause) → clause_of t ≡ Made c → IsClause d → IsRenaming (parts_of t) d → d ≡ c
 made_only t c d e h r =
     let p = parts_of t in
-    let m = made_body p c (is_body p.body) refl (made_head p.head p c e).1 in
-    numbered_only p d h r ∙ sym m.1
+    let m = made_body p (body_of p.body) c (made_head p.head p c e).1 in
+    numbered_only (rule p.head m.0) d h (renames p m.0 d m.1.0 r) ∙ sym m.1.1

@@ -1,5 +1,5 @@
 -- The same of a term's nodes in prefix order.
-use Rattle.std.specs.Prelude.{ℕ, ◌+◌, ◌-◌, ◌&&◌, ◌==◌, List, [], ◌∷◌, Bool, false, codes, Option, Some, None, if◌then◌else◌}
+use Rattle.std.specs.Prelude.{ℕ, ◌+◌, ◌-◌, ◌&&◌, ◌==◌, List, [], ◌∷◌, ◌++◌, Bool, false, codes, Option, Some, None, if◌then◌else◌}
 use Rattle.prolog_terms.specs.Clauses.{is_named, is_connective}
 use Rattle.prolog_terms.specs.declared.node.Node.{Node}
 use Rattle.prolog_terms.specs.declared.node.Node.TheVariants.{Var, Int, Atom, Functor}
@@ -30,6 +30,37 @@ goal_len (Var n ∷ ns) = None
 goal_len (Int z ∷ ns) = None
 goal_len (Atom a ∷ ns) = Some 1
 goal_len (Functor f n ∷ ns) = Some (if is_connective f && n == 2 then 1 else span 1 (Functor f n ∷ ns))
+
+-- how many trees stand behind a node before its own tree ends
+abbrev pub arity_of : Node → ℕ
+arity_of (Var n) = 0
+arity_of (Int z) = 0
+arity_of (Atom a) = 0
+arity_of (Functor f n) = n
+
+-- how many trees stand behind the first node of a goal before the next goal
+abbrev pub trees_behind : Node → ℕ
+trees_behind (Var n) = 0
+trees_behind (Int z) = 0
+trees_behind (Atom a) = 0
+trees_behind (Functor f n) = if is_connective f && n == 2 then 0 else n
+
+-- the nodes that stand for the first node of a goal; none for an integer
+abbrev pub goal_nodes : Node → Option (List Node)
+goal_nodes (Var n) = Some (Functor (codes "call") 1 ∷ Var n ∷ [])
+goal_nodes (Int z) = None
+goal_nodes (Atom a) = Some (Atom a ∷ [])
+goal_nodes (Functor f n) = Some (Functor f n ∷ [])
+
+abbrev pub and_nodes : Option (List Node) → Option (List Node) → Option (List Node)
+and_nodes None ms = None
+and_nodes (Some ns) None = None
+and_nodes (Some ns) (Some ms) = Some (ns ++ ms)
+
+-- the nodes of a body, of which so many trees are left before the next goal; none where an integer stands as a goal
+abbrev pub body_nodes : ℕ → List Node → Option (List Node)
+body_nodes k [] = Some []
+body_nodes k (n ∷ ns) = if k == 0 then and_nodes (goal_nodes n) (body_nodes (trees_behind n) ns) else and_nodes (Some (n ∷ [])) (body_nodes (k - 1 + arity_of n) ns)
 
 -- a list of variables after one of the node
 abbrev pub met_with : List ℕ → Node → List ℕ

@@ -3,3 +3,4 @@ pub mod Formed
 pub mod Flat
 pub mod Declarations
 pub mod Cells
+pub mod Directives

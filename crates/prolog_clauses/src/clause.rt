@@ -5,34 +5,28 @@ ghost use Rattle.prolog_terms.specs.Flat.{tree, nodes as nodes_of, HasPrefixOrde
 ghost use Rattle.prolog_clauses.specs.Formed as spec;
 ghost use Rattle.prolog_clauses.specs.Flat as flat;
 
+use crate::called::body_of;
+use crate::culprit::type_error;
 use crate::goals::{begins_rule, is_body, tree_len};
 use crate::numbers::Numbers;
-use prolog_terms::{Clause, Name, Node, Term, Want};
+use prolog_terms::{Clause, Fault, Name, Node, Term, Want};
 use std::alloc::Global;
 
 /// What a term is.
-#[derive(Debug, Drop, PartialEq)]
+#[derive(Debug, Drop)]
 pub enum Formed {
     /// A clause, its variables numbered from 0 by first occurrence through head and then body.
     Clause(Clause),
-    /// No clause.
-    Refused(NoClause),
-}
-
-/// Why a term is no clause. What is amiss with the head comes before what is amiss with the body.
-#[derive(Clone, Copy, Debug, PartialEq, Eq)]
-pub enum NoClause {
-    /// The head is a variable.
-    VariableHead,
-    /// The head is an integer.
-    IntegerHead,
-    /// A variable or an integer stands as a goal of the body, through `,`, `;` and `->`.
-    NoBody,
+    /// No clause, and this is the error of adding it. What is amiss with the head comes before what is amiss with the body:
+    /// the head is a variable (an instantiation error) or an integer (a type error of the head), or an integer stands as a goal
+    /// of the body, through `,`, `;` and `->` (a type error of the whole body as it was written).
+    Refused(Fault),
 }
 
 /// The clause that a term is: a term of the name `:-` with two arguments is a rule, and every other term is a fact, whose
-/// body is `true`. Whether the head's name is reserved, and whether the term is a directive (`:-` or `?-` with one argument)
-/// or a grammar rule (`-->` with two), is for the caller to see: here these are heads of facts like any other.
+/// body is `true`. A variable that stands as a goal of a rule's body, through `,`, `;` and `->`, becomes `call` of it.
+/// Whether the head's name is reserved, and whether the term is a directive (`:-` or `?-` with one argument) or a grammar
+/// rule (`-->` with two), is for the caller to see: here these are heads of facts like any other.
 pub fn clause_of(alloc: Global, term: &Term) -> Result<Formed, Want>
     ensures { IfOk result (λ x. x ≡ spec.clause_of term.now) }
 {
@@ -42,13 +36,6 @@ pub fn clause_of(alloc: Global, term: &Term) -> Result<Formed, Want>
     } else {
         fact(alloc, nodes)
     }
-}
-
-/// Whether a term can be a body: no variable and no integer stands as a goal of it, through `,`, `;` and `->`.
-pub fn can_be_body(term: &Term) -> bool
-    ensures { result ≡ terms.is_body term.now }
-{
-    is_body(term.nodes())
 }
 
 /// The clause of a rule's nodes.
@@ -79,23 +66,33 @@ fn of_parts(alloc: Global, head: &[Node], body: &[Node]) -> Result<Formed, Want>
     ensures { IfOk result (λ x. x ≡ spec.of_parts (spec.rule (tree head.now) (tree body.now))) }
 {
     match &head[0] {
-        Node::Var(_) => Ok(Formed::Refused(NoClause::VariableHead)),
-        Node::Int(_) => Ok(Formed::Refused(NoClause::IntegerHead)),
+        Node::Var(_) => Ok(Formed::Refused(Fault::Instantiation)),
+        Node::Int(_) => Ok(Formed::Refused(no_callable(alloc, head)?)),
         Node::Atom(_) | Node::Functor(_, _) => with_body(alloc, head, body),
     }
 }
 
-/// The same, where the head is one.
+/// The same, where the head is one: with `call` of each variable that stands as a goal of the body.
 fn with_body(alloc: Global, head: &[Node], body: &[Node]) -> Result<Formed, Want>
     requires head { HasPrefixOrder head.now }
     requires body { HasPrefixOrder body.now }
-    ensures { IfOk result (λ x. x ≡ spec.with_body (spec.rule (tree head.now) (tree body.now))) }
+    ensures { IfOk result (λ x. x ≡ spec.with_body (spec.rule (tree head.now) (tree body.now)) (terms.body_of (tree body.now))) }
 {
     if is_body(body) {
-        Ok(Formed::Clause(numbered(alloc, head, body)?))
-    } else {
-        Ok(Formed::Refused(NoClause::NoBody))
+        return Ok(Formed::Clause(numbered(alloc, head, body)?));
     }
+    match body_of(alloc, body)? {
+        Some(goals) => Ok(Formed::Clause(numbered(alloc, head, goals.as_slice())?)),
+        None => Ok(Formed::Refused(no_callable(alloc, body)?)),
+    }
+}
+
+/// The error that a term can't be called.
+fn no_callable(alloc: Global, nodes: &[Node]) -> Result<Fault, Want>
+    requires { HasPrefixOrder nodes.now }
+    ensures { IfOk result (λ fault. fault ≡ spec.no_callable (tree nodes.now)) }
+{
+    type_error(alloc, b"callable", nodes)
 }
 
 /// Head and body, with their variables numbered by first occurrence.

@@ -37,7 +37,7 @@ pub(crate) fn begins_rule(nodes: &[Node]) -> bool
 }
 
 /// Whether the name joins goals.
-fn is_connective(name: &Name) -> bool
+pub(crate) fn is_connective(name: &Name) -> bool
     ensures { result ≡ terms.is_connective name.now }
 {
     let text = name.bytes();

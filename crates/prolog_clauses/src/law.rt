@@ -6,8 +6,8 @@ ghost use Rattle.prolog_terms.specs.declared.entry.Clause.{Clause};
 ghost use Rattle.prolog_clauses.specs.declared.clause.Formed.TheVariants.{Clause as Made};
 ghost use Rattle.prolog_clauses.specs.Formed.{clause_of, parts_of, IsRenaming};
 
-/// What a term gives is a clause, and is the term's head and body with other numbers for their variables, no two of
-/// which get the same. It is the only such clause.
+/// What a term gives is a clause, and is the term's head and body with `call` of each variable that stands as a goal, and
+/// other numbers for their variables, no two of which get the same. It is the only such clause.
 pub fn clauses_are_renamings()
     ensures clause { (t : Tree) (c : Clause) → clause_of t ≡ Made c → IsClause c }
     ensures renaming { (t : Tree) (c : Clause) → clause_of t ≡ Made c → IsRenaming (parts_of t) c }

@@ -1,11 +1,13 @@
-//! From a term that was read to a clause, or to what it declares of operators.
+//! From a term that was read to a clause, or to what it is as a directive.
 //!
-//! `specs/Formed.antt` says which clause a term is, and which term is none, and `specs/Declarations.antt` what a directive
-//! declares, or its error. No call here recurses on a term, and the work is linear in its nodes.
+//! `specs/Formed.antt` says which clause a term is, or the error of adding it, `specs/Directives.antt` which directive a term is,
+//! and `specs/Declarations.antt` what a directive declares of operators, or its error. No call here recurses on a term, and the work is linear in its nodes.
 #![tactic(auto)]
 
+mod called;
 mod clause;
 mod culprit;
+mod directive;
 mod elements;
 mod goals;
 mod law;
@@ -16,7 +18,8 @@ mod table;
 #[cfg(test)]
 mod tests;
 
-pub use clause::{Formed, NoClause, can_be_body, clause_of};
+pub use clause::{Formed, clause_of};
+pub use directive::{Directive, directive_of};
 pub use law::clauses_are_renamings;
 pub use op_names::OpNames;
 pub use operators::{Declaration, Declaring, declaring_of};

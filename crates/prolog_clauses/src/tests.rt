@@ -1,15 +1,15 @@
 // Terms, the clauses that they are, and what they come to as directives.
 
 use crate::{
-    Declaration, Declaring, Formed, NoClause, clause_of, clauses_are_renamings, declare,
-    declaring_of,
+    Declaration, Declaring, Directive, Formed, clause_of, clauses_are_renamings, declare,
+    declaring_of, directive_of,
 };
 use prolog_terms::{Clause, Fault, Indicator, Name, Node, OpKind, Ops, Term, Want, fault_term};
 use std::alloc::Global;
 use std::process::Abort;
 
 /// Rows, each closed by a line's end: a term's nodes, an arrow, and the nodes of head and body with the count of variables,
-/// or why it is no clause. A variable is `_` and its number, an integer its digits, a name stands for an atom, and with `/`
+/// or the nodes of its error where it is no clause. A variable is `_` and its number, an integer its digits, a name stands for an atom, and with `/`
 /// and a count for a compound's name.
 const ROWS: &str = "\
     p => p : true : 0
@@ -26,19 +26,34 @@ const ROWS: &str = "\
     :- => :- : true : 0
     -->/2 a b => -->/2 a b : true : 0
     :-/2 f/2 _8 g/1 _8 ,/2 h/2 1 _6 k/1 g/1 _8 => f/2 _0 g/1 _0 : ,/2 h/2 1 _1 k/1 g/1 _0 : 2
-    _0 => variable head
-    1 => integer head
-    :-/2 _0 p => variable head
-    :-/2 1 p => integer head
-    :-/2 _0 _1 => variable head
-    :-/2 1 1 => integer head
-    :-/2 p _0 => no body
-    :-/2 p 1 => no body
-    :-/2 p ,/2 q _0 => no body
-    :-/2 p ,/2 1 q => no body
-    :-/2 p ;/2 ->/2 a b ,/2 c 1 => no body
+    _0 => instantiation_error
+    1 => type_error/2 callable 1
+    :-/2 _0 p => instantiation_error
+    :-/2 1 p => type_error/2 callable 1
+    :-/2 _0 _1 => instantiation_error
+    :-/2 1 1 => type_error/2 callable 1
+    :-/2 p _7 => p : call/1 _0 : 1
+    :-/2 p ,/2 q _7 => p : ,/2 q call/1 _0 : 1
+    :-/2 p ;/2 _7 _7 => p : ;/2 call/1 _0 call/1 _0 : 1
+    :-/2 p ->/2 _7 _3 => p : ->/2 call/1 _0 call/1 _1 : 2
+    :-/2 p ->/2 q _3 => p : ->/2 q call/1 _0 : 1
+    :-/2 p/1 _0 ,/2 q/2 _3 _0 _0 => p/1 _0 : ,/2 q/2 _1 _0 call/1 _0 : 2
+    :-/2 p/1 _3 ,/2 _5 ,/2 q/1 _3 _5 => p/1 _0 : ,/2 call/1 _1 ,/2 q/1 _0 call/1 _1 : 2
+    :-/2 p ;/2 ->/2 _2 a _1 => p : ;/2 ->/2 call/1 _0 a call/1 _1 : 2
+    :-/2 p ,/2 ,/2 _2 q/2 f/1 _9 _2 _9 => p : ,/2 ,/2 call/1 _0 q/2 f/1 _1 _0 call/1 _1 : 2
+    :-/2 p ,/2 call/1 _3 _3 => p : ,/2 call/1 _0 call/1 _0 : 1
+    :-/2 p ,/2 \\+/1 _4 _4 => p : ,/2 \\+/1 _0 call/1 _0 : 1
+    :-/2 p ,/2 q/1 ,/2 _1 _2 _2 => p : ,/2 q/1 ,/2 _0 _1 call/1 _1 : 2
+    :-/2 p ;/3 _1 _2 _3 => p : ;/3 _0 _1 _2 : 3
+    ,/2 _4 _2 => ,/2 _0 _1 : true : 2
+    :-/2 p 1 => type_error/2 callable 1
+    :-/2 p ,/2 1 q => type_error/2 callable ,/2 1 q
+    :-/2 p/1 _5 ,/2 _3 1 => type_error/2 callable ,/2 _0 1
+    :-/2 p ;/2 1 _4 => type_error/2 callable ;/2 1 _0
+    :-/2 p/1 _0 ->/2 _3 ,/2 q/1 _0 2 => type_error/2 callable ->/2 _0 ,/2 q/1 _1 2
+    :-/2 p ;/2 ->/2 a b ,/2 c 1 => type_error/2 callable ;/2 ->/2 a b ,/2 c 1
     :-/2 p ;/2 ->/2 a b ,/2 c q/1 1 => p : ;/2 ->/2 a b ,/2 c q/1 1 : 0
-    :-/2 p ->/2 q/2 f/1 _2 3 ;/2 r _4 => no body
+    :-/2 p ->/2 q/2 f/1 _2 3 ;/2 r _4 => p : ->/2 q/2 f/1 _0 3 ;/2 r call/1 _1 : 2
     :-/2 p ,/1 _4 => p : ,/1 _0 : 1
     :-/2 p \\+/1 _4 => p : \\+/1 _0 : 1
     :-/2 p q/2 1 ,/2 1 _0 => p : q/2 1 ,/2 1 _0 : 1
@@ -69,30 +84,29 @@ fn term_of(alloc: Global, words: &str) -> Result<Term, Want> {
     Term::of_nodes(nodes).map_err(|_| Want)
 }
 
-fn clause_of_row(alloc: Global, row: &str) -> Result<Formed, Want> {
+fn is_clause(alloc: Global, clause: &Clause, row: &str) -> Result<bool, Want> {
     let Some((head, rest)) = row.split_once(" : ") else {
-        return Ok(Formed::Refused(match row {
-            "variable head" => NoClause::VariableHead,
-            "integer head" => NoClause::IntegerHead,
-            _ => NoClause::NoBody,
-        }));
+        return Ok(false);
     };
     let Some((body, vars)) = rest.split_once(" : ") else {
         return Err(Want);
     };
-    Ok(Formed::Clause(Clause {
-        head: term_of(alloc, head)?,
-        body: term_of(alloc, body)?,
-        vars: vars.parse::<u64>().unwrap_or(0),
-    }))
+    Ok(
+        clause.head == term_of(alloc, head)?
+            && clause.body == term_of(alloc, body)?
+            && clause.vars == vars.parse::<u64>().unwrap_or(0),
+    )
 }
 
 fn row_holds(alloc: Global, row: &str) -> Result<bool, Want> {
-    let Some((term, clause)) = row.split_once(" => ") else {
+    let Some((term, outcome)) = row.split_once(" => ") else {
         return Ok(row.is_empty());
     };
     let term = term_of(alloc, term)?;
-    Ok(clause_of(alloc, &term)? == clause_of_row(alloc, clause)?)
+    match clause_of(alloc, &term)? {
+        Formed::Clause(clause) => is_clause(alloc, &clause, outcome),
+        Formed::Refused(fault) => is_fault(alloc, &fault, outcome),
+    }
 }
 
 #[test]
@@ -222,6 +236,65 @@ fn directives_come_to_this(rt: HostRuntime) {
         let row = line.trim();
         assert!(rt;
             directive_holds(rt.alloc(), row).expect(&rt, "memory"),
+            "at {row}"
+        );
+    }
+}
+
+/// Rows, each closed by a line's end: a term's nodes, an arrow, and which directive it is: one for operators, one that says
+/// nothing, or the nodes of the goal that is kept or run.
+const WHICH: &str = "\
+    p => none
+    :- => none
+    ?- => none
+    :-/2 p q => none
+    :-/1 op/3 700 xfx a => operators
+    :-/1 op/3 _0 _1 _2 => operators
+    :-/1 discontiguous/1 _0 => nothing
+    :-/1 multifile/1 f/2 1 a => nothing
+    :-/1 discontiguous/2 a b => run once/1 discontiguous/2 a b
+    :-/1 multifile => run once/1 multifile
+    :-/1 initialization/1 p/2 _0 _0 => keep once/1 p/2 _0 _0
+    :-/1 initialization/1 _3 => keep once/1 _3
+    :-/1 initialization/2 p q => run once/1 initialization/2 p q
+    :-/1 initialization => run once/1 initialization
+    :-/1 _0 => run once/1 _0
+    :-/1 1 => run once/1 1
+    :-/1 :-/1 p => run once/1 :-/1 p
+    :-/1 ,/2 op/3 700 xfx a true => run once/1 ,/2 op/3 700 xfx a true
+    ?-/1 p/1 f/1 _0 => run once/1 p/1 f/1 _0
+    ?-/1 op/3 700 xfx a => run once/1 op/3 700 xfx a
+    ?-/1 discontiguous/1 a => run once/1 discontiguous/1 a
+    ?-/1 initialization/1 p => run once/1 initialization/1 p
+    ";
+
+fn is_goal(alloc: Global, goal: &Term, outcome: Option<&str>) -> Result<bool, Want> {
+    match outcome {
+        Some(words) => Ok(*goal == term_of(alloc, words)?),
+        None => Ok(false),
+    }
+}
+
+fn which_holds(alloc: Global, row: &str) -> Result<bool, Want> {
+    let Some((term, outcome)) = row.split_once(" => ") else {
+        return Ok(row.is_empty());
+    };
+    let term = term_of(alloc, term)?;
+    match directive_of(alloc, &term)? {
+        None => Ok(outcome == "none"),
+        Some(Directive::Operators(_)) => Ok(outcome == "operators"),
+        Some(Directive::Nothing) => Ok(outcome == "nothing"),
+        Some(Directive::Kept(goal)) => is_goal(alloc, &goal, outcome.strip_prefix("keep ")),
+        Some(Directive::Goal(goal)) => is_goal(alloc, &goal, outcome.strip_prefix("run ")),
+    }
+}
+
+#[test]
+fn terms_are_these_directives(rt: HostRuntime) {
+    for line in WHICH.split('\n') {
+        let row = line.trim();
+        assert!(rt;
+            which_holds(rt.alloc(), row).expect(&rt, "memory"),
             "at {row}"
         );
     }

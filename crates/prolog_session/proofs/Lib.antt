@@ -4,6 +4,8 @@ pub mod Ran
 pub mod Facts
 pub mod Placing
 pub mod Loads
+pub mod Takings
+pub mod Parts
 pub mod OneTerm
 pub mod Digits
 pub mod Answered

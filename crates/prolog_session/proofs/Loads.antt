@@ -1,6 +1,7 @@
 -- A load, one read-term after the other.
-use Rattle.std.proofs.Common.{◌≡◌, ℕ, ◌<◌, List, [], ◌∷◌, ◌++◌, append-nil, Bool, true, false, Option, Some, None, refl, sym, ◌∙◌, ap, subst}
-use Rattle.std.specs.Prelude.{◌||◌, if◌then◌else◌}
+use Rattle.std.proofs.Common.{◌≡◌, ℕ, ◌<◌, List, [], ◌∷◌, ◌++◌, append-nil, append_assoc, map, Bool, true, false, Option, Some, None, refl, sym, ◌∙◌, ap, subst, All}
+use Rattle.std.specs.Prelude.{if◌then◌else◌, IfSome}
+use Rattle.std.proofs.lemmas.List.Elements.{All-append, All-cons, All-nil}
 use Rattle.prolog_terms.specs.Tree.{Tree}
 use Rattle.prolog_terms.specs.Indicators.{indicator_of}
 use Rattle.prolog_terms.specs.Clauses.{IsClause}
@@ -8,6 +9,7 @@ use Rattle.prolog_terms.specs.Operators.{Table, initial_operators}
 use Rattle.prolog_terms.specs.declared.entry.Clause.{Clause as AClause}
 use Rattle.prolog_terms.specs.declared.entry.Indicator.{Indicator}
 use Rattle.prolog_terms.specs.declared.fault.Fault.{Fault}
+use Rattle.prolog_terms.specs.declared.shown.Shown.{Shown}
 use Rattle.journal_base.specs.Journal.{Journal}
 use Rattle.journal_base.specs.Legal.{Legal}
 use Rattle.journal_base.specs.Plain.{Plain}
@@ -16,267 +18,280 @@ use Rattle.journal_base.proofs.Entries.{Legal-nil}
 use Rattle.prolog_clauses.specs.Formed.{clause_of}
 use Rattle.prolog_clauses.specs.declared.clause.Formed.{Formed}
 use Rattle.prolog_clauses.specs.declared.clause.Formed.TheVariants.{Clause as Made, Refused as NoClause}
-use Rattle.prolog_clauses.specs.Declarations.{declaring_of, error_of, table_after}
-use Rattle.prolog_clauses.specs.declared.operators.Declaring.{Declaring}
+use Rattle.prolog_clauses.specs.Directives.{directive_of}
+use Rattle.prolog_clauses.specs.declared.directive.Directive.{Directive}
+use Rattle.prolog_clauses.specs.declared.directive.Directive.TheVariants.{Operators as ForOperators, Nothing as ForNothing, Kept as ForTheEnd, Goal as ToRun}
+use Rattle.prolog_clauses.specs.Declarations.{error_of}
 use Rattle.prolog_clauses.proofs.Laws.{made_clause}
 use Rattle.prolog_lexer.specs.Streams.{Stream, tokens}
 use Rattle.prolog_reader.specs.Texts.{Reading, Answer, a_term, nothing, refusal, Sentence, answer_of, sentences, read_of, tail, size}
-use Rattle.wam_machine.specs.declared.run.Run.{Run}
-use Rattle.prolog_session.specs.Reserved.{is_reserved, is_directive, is_grammar_rule}
-use Rattle.prolog_session.specs.declared.refusal.Refusal.{Refusal}
-use Rattle.prolog_session.specs.declared.part.Part.{Part}
-use Rattle.prolog_session.specs.declared.part.Part.TheVariants.{Clause, Operators, Refused, End}
-use Rattle.prolog_session.specs.Load.{part_of, part_of_directive, part_of_named, part_of_formed, part_of_clause, no_clause, Item, a_clause, an_error, ReadText, with_error, operators_after, before, text_under, text_of, with_clause, Placed, Loaded, run_unless, error_runs, after_clause, after_error, load, unloaded, load_of, journal_of}
-use Rattle.prolog_session.specs.Bases.{sizes_of, HasClause}
 use Rattle.prolog_reader.proofs.Sentences.{sentences-unfold, later, sentences-after, shorter_after}
+use Rattle.wam_machine.specs.declared.run.Run.{Run}
+use Rattle.prolog_session.specs.Reserved.{is_reserved, is_grammar_rule}
+use Rattle.wam_machine.specs.Runs.{AreShown}
+use Rattle.prolog_session.specs.declared.refusal.Refusal.{Refusal}
+use Rattle.prolog_session.specs.declared.kept.TextGoal.{TextGoal}
+use Rattle.prolog_session.specs.declared.part.Part.{Part}
+use Rattle.prolog_session.specs.declared.part.Part.TheVariants.{Clause, Operators, Goal, Kept, Nothing, Raises}
+use Rattle.prolog_session.specs.declared.part.Next.{Next}
+use Rattle.prolog_session.specs.declared.part.Next.TheVariants.{Taken, Refused, End}
+use Rattle.prolog_session.specs.Load.{assertz, no_change, not_added, part_of_clause, part_of_formed, part_of_term, part_of_directive, part_with, part_of, next_of, IsClauseOf, IsReadyPart, Item, a_clause, an_error, a_goal, ReadText, error_items, items_of, operators_after, kept_after, goals, with_items, before, text_under, text_of, with_clause, Loaded, after_clause, after_error, with_run, Loads, unloaded, journal_after, journal_of, IsLoadOf, operators_of, refusal_of}
+use Rattle.prolog_session.specs.declared.load.Loading.{Loading}
+use Rattle.prolog_session.specs.Bases.{sizes_of, holding, loaded_in, IsOfLoad}
+use Rattle.prolog_session.specs.Taking.{Takes}
 use Rattle.prolog_session.proofs.Facts.{Legal-with_clause}
 
--- ---- what is added is a clause
+-- ---- a clause that is added is one
 
--- a clause that a load adds comes from a term that was read
-pub record IsClauseIn (a : Answer) (i : Indicator) (c : AClause) : Type 0 where
-  pub at : ℕ
-  pub reading : Reading
-  pub term : a ≡ a_term at reading
-  pub named : indicator_of c.head ≡ Some i
-  pub clause : IsClause c
-
--- a clause, of this name and arity
-record IsNamedClause (i : Indicator) (c : AClause) : Type 0 where
-  named : indicator_of c.head ≡ Some i
-  clause : IsClause c
-
-same_clause : (n line : ℕ) (i j : Indicator) (c d : AClause) → ◌≡◌ {A = Part} (Clause n j d) (Clause line i c) → indicator_of d.head ≡ Some j → IsClause d → IsNamedClause i c
-same_clause n line i j c d e named clause =
-    let clauses : d ≡ c = cc in
-    let names : j ≡ i = cc in
-    record { named = ap (λ (x : AClause). indicator_of x.head) (sym clauses) ∙ named ∙ ap Some names; clause = subst IsClause clauses clause }
-
-from_clause : (n line : ℕ) (i : Indicator) (c d : AClause) → IsClause d → (o : Option Indicator) → indicator_of d.head ≡ o
-    → part_of_clause n d o ≡ Clause line i c → IsNamedClause i c
-from_clause n line i c d clause None e h = absurd cc
-from_clause n line i c d clause (Some j) e h = go (is_reserved j) h
+ready-clause : (n : ℕ) (d : AClause) → IsClause d → (o : Option Indicator) → indicator_of d.head ≡ o → IsReadyPart (part_of_clause n d o)
+ready-clause n d clause None e = tt
+ready-clause n d clause (Some j) e = go (is_reserved j)
   where
-    go : (b : Bool) → ◌≡◌ {A = Part} (if b then no_clause n else Clause n j d) (Clause line i c) → IsNamedClause i c
-    go true k = absurd cc
-    go false k = same_clause n line i j c d k e clause
+    go : (b : Bool) → IsReadyPart (if b then not_added n (no_change j) else Clause n j d)
+    go true = tt
+    go false = record { named = e; clause = clause }
 
-from_formed : (n line : ℕ) (i : Indicator) (c : AClause) (t : Tree) (f : Formed) → clause_of t ≡ f → part_of_formed n f ≡ Clause line i c → IsNamedClause i c
-from_formed n line i c t (Made d) e h = from_clause n line i c d (made_clause t d e) (indicator_of d.head) refl h
-from_formed n line i c t (NoClause why) e h = absurd cc
+pub ready-formed : (n : ℕ) (t : Tree) (f : Formed) → clause_of t ≡ f → IsReadyPart (part_of_formed n f)
+ready-formed n t (Made d) e = ready-clause n d (made_clause t d e) (indicator_of d.head) refl
+ready-formed n t (NoClause fault) e = tt
 
-from_named : (n line : ℕ) (i : Indicator) (c : AClause) (t : Tree) (o : Option Indicator) → part_of_named n t o ≡ Clause line i c → IsNamedClause i c
-from_named n line i c t None h = absurd cc
-from_named n line i c t (Some j) h = go (is_directive j || is_grammar_rule j) h
+pub ready-term : (n : ℕ) (t : Tree) (o : Option Indicator) → IsReadyPart (part_of_term n t o)
+ready-term n t None = ready-formed n t (clause_of t) refl
+ready-term n t (Some j) = go (is_grammar_rule j)
   where
-    go : (b : Bool) → ◌≡◌ {A = Part} (if b then no_clause n else part_of_formed n (clause_of t)) (Clause line i c) → IsNamedClause i c
-    go true k = absurd cc
-    go false k = from_formed n line i c t (clause_of t) refl k
-
-from_term : (n line : ℕ) (i : Indicator) (c : AClause) (t : Tree) (o : Option Declaring) → part_of_directive n t o ≡ Clause line i c → IsNamedClause i c
-from_term n line i c t (Some d) h = absurd cc
-from_term n line i c t None h = from_named n line i c t (indicator_of t) h
-
-pub part_of-clause : (a : Answer) (line : ℕ) (i : Indicator) (c : AClause) → part_of a ≡ Clause line i c → IsClauseIn a i c
-part_of-clause (a_term n r) line i c h =
-    let f = from_term n line i c r.term (declaring_of r.term) h in
-    record { at = n; reading = r; term = refl; named = f.named; clause = f.clause }
-part_of-clause (refusal n fault) line i c h = absurd cc
-part_of-clause nothing line i c h = absurd cc
+    go : (b : Bool) → IsReadyPart (if b then not_added n (no_change j) else part_of_formed n (clause_of t))
+    go true = tt
+    go false = ready-formed n t (clause_of t) refl
 
 -- ---- the read-term at the front of a text
 
-abbrev pub text_at : Table → Stream → ReadText
-text_at ops s = text_under ops (sentences s)
+abbrev pub text_at : Table → List TextGoal → Stream → ReadText
+text_at ops kept s = text_under ops kept (sentences s)
 
--- the read-term at the front
-abbrev pub part_at : Table → Stream → Part
-part_at ops s = part_of (read_of ops s)
-
--- behind a part that no text ends with there is a text
-abbrev pub GoesOn : Part → Type 0
-GoesOn (Clause line i c) = Unit {0}
-GoesOn (Operators line d) = Unit {0}
-GoesOn (Refused r) = ⊥
-GoesOn End = ⊥
+-- what is at the front
+abbrev pub next_at : Table → Stream → Next
+next_at ops s = next_of (read_of ops s)
 
 -- the read-terms behind the first one
-rest_of : (ops : Table) (s : Stream) (a : Answer) → read_of ops s ≡ a → GoesOn (part_of a) → later (tail s).how (tail s).rest ≡ sentences (tail s).rest
-rest_of ops s (a_term n r) e on = sentences-after ops s n r e
-rest_of ops s nothing e on = absurd on
-rest_of ops s (refusal n f) e on = absurd on
+rest_of : (ops : Table) (s : Stream) (p : Part) (a : Answer) → read_of ops s ≡ a → next_of a ≡ Taken p → later (tail s).how (tail s).rest ≡ sentences (tail s).rest
+rest_of ops s p (a_term n r) e on = sentences-after ops s n r e
+rest_of ops s p nothing e on = absurd cc
+rest_of ops s p (refusal n f) e on = absurd cc
 
 -- a text that goes on is its first read-term and what is behind it
-pub text-goes : (ops : Table) (s : Stream) (p : Part) → part_at ops s ≡ p → GoesOn p → text_at ops s ≡ before p ops (text_at (operators_after p ops) (tail s).rest)
+pub text-goes : (ops : Table) (kept : List TextGoal) (s : Stream) (p : Part) → next_at ops s ≡ Taken p
+    → text_at ops kept s ≡ with_items (items_of p ops) (text_at (operators_after p ops) (kept_after p kept) (tail s).rest)
 unfolding read_of
-text-goes ops s p e on =
-    let rest : later (tail s).how (tail s).rest ≡ sentences (tail s).rest = rest_of ops s (read_of ops s) refl (subst GoesOn (sym e) on) in
-    ap (text_under ops) (sentences-unfold s)
-    ∙ ap (λ (xs : List Sentence). before (part_at ops s) ops (text_under (operators_after (part_at ops s) ops) xs)) rest
-    ∙ ap (λ (q : Part). before q ops (text_at (operators_after q ops) (tail s).rest)) e
+text-goes ops kept s p e =
+    let rest : later (tail s).how (tail s).rest ≡ sentences (tail s).rest = rest_of ops s p (read_of ops s) refl e in
+    ap (text_under ops kept) (sentences-unfold s)
+    ∙ ap (λ (xs : List Sentence). before (next_at ops s) ops kept (λ (q : Part). text_under (operators_after q ops) (kept_after q kept) xs)) rest
+    ∙ ap (λ (n : Next). before n ops kept (λ (q : Part). text_at (operators_after q ops) (kept_after q kept) (tail s).rest)) e
 
 -- and one that doesn't ends there
-pub text-refused : (ops : Table) (s : Stream) (r : Refusal) → part_at ops s ≡ Refused r → text_at ops s ≡ record { items = []; operators = ops; refused = Some r }
+pub text-refused : (ops : Table) (kept : List TextGoal) (s : Stream) (r : Refusal) → next_at ops s ≡ Refused r → text_at ops kept s ≡ record { items = []; operators = ops; refused = Some r }
 unfolding read_of
-text-refused ops s r e =
-    ap (text_under ops) (sentences-unfold s) ∙ ap (λ (q : Part). before q ops (text_under (operators_after q ops) (later (tail s).how (tail s).rest))) e
+text-refused ops kept s r e =
+    ap (text_under ops kept) (sentences-unfold s)
+    ∙ ap (λ (n : Next). before n ops kept (λ (q : Part). text_under (operators_after q ops) (kept_after q kept) (later (tail s).how (tail s).rest))) e
 
-pub text-end : (ops : Table) (s : Stream) → part_at ops s ≡ End → text_at ops s ≡ record { items = []; operators = ops; refused = None }
+pub text-end : (ops : Table) (kept : List TextGoal) (s : Stream) → next_at ops s ≡ End → text_at ops kept s ≡ record { items = goals kept; operators = ops; refused = None }
 unfolding read_of
-text-end ops s e =
-    ap (text_under ops) (sentences-unfold s) ∙ ap (λ (q : Part). before q ops (text_under (operators_after q ops) (later (tail s).how (tail s).rest))) e
+text-end ops kept s e =
+    ap (text_under ops kept) (sentences-unfold s)
+    ∙ ap (λ (n : Next). before n ops kept (λ (q : Part). text_under (operators_after q ops) (kept_after q kept) (later (tail s).how (tail s).rest))) e
 
 -- what is behind it is shorter
-pub shorter : (ops : Table) (s : Stream) → GoesOn (part_at ops s) → size (tail s).rest < size s
-shorter ops s on = go (read_of ops s) refl on
+pub shorter : (ops : Table) (s : Stream) (p : Part) → next_at ops s ≡ Taken p → size (tail s).rest < size s
+shorter ops s p on = go (read_of ops s) refl on
   where
-    go : (a : Answer) → read_of ops s ≡ a → GoesOn (part_of a) → size (tail s).rest < size s
+    go : (a : Answer) → read_of ops s ≡ a → next_of a ≡ Taken p → size (tail s).rest < size s
     go (a_term n r) e on = shorter_after ops s n r e
-    go nothing e on = absurd on
-    go (refusal n f) e on = absurd on
-
--- a clause at the front
-pub record IsClauseAhead (i : Indicator) (c : AClause) : Type 0 where
-  pub named : indicator_of c.head ≡ Some i
-  pub clause : IsClause c
-
-pub clause-ahead : (ops : Table) (s : Stream) (line : ℕ) (i : Indicator) (c : AClause) → Clause line i c ≡ part_at ops s → IsClauseAhead i c
-clause-ahead ops s line i c e = let f = part_of-clause (read_of ops s) line i c (sym e) in record { named = f.named; clause = f.clause }
+    go nothing e on = absurd cc
+    go (refusal n f) e on = absurd cc
 
 -- ---- a load is legal
 
 -- each clause that a text adds is one, of the name and arity that it goes with
 abbrev IsFit : Item → Type 0
-IsFit (a_clause line i c) = IsClauseAhead i c
+IsFit (a_clause line i c) = IsClauseOf i c
 IsFit (an_error line fault at) = Unit {0}
+IsFit (a_goal g) = Unit {0}
 
 abbrev AreFit : List Item → Type 0
 AreFit [] = Unit {0}
 AreFit (x ∷ xs) = IsFit x × AreFit xs
 
-fit-error : (line : ℕ) (o : Option Fault) (items : List Item) → AreFit items → AreFit (with_error line o items)
-fit-error line None items h = h
-fit-error line (Some fault) items h = (tt, h)
+fit-both : (xs ys : List Item) → AreFit xs → AreFit ys → AreFit (xs ++ ys)
+fit-both [] ys h k = k
+fit-both (x ∷ xs) ys h k = (h.0, fit-both xs ys h.1 k)
 
-fit-before : (a : Answer) (p : Part) (ops : Table) (later : ReadText) → part_of a ≡ p → AreFit later.items → AreFit (before p ops later).items
-fit-before a (Clause line i c) ops later e h = let f = part_of-clause a line i c e in (record { named = f.named; clause = f.clause }, h)
-fit-before a (Operators line d) ops later e h = fit-error line (error_of ops d) later.items h
-fit-before a (Refused r) ops later e h = tt
-fit-before a End ops later e h = tt
+fit-goals : (kept : List TextGoal) → AreFit (goals kept)
+fit-goals [] = tt
+fit-goals (g ∷ gs) = (tt, fit-goals gs)
 
-fit : (ops : Table) (xs : List Sentence) → AreFit (text_under ops xs).items
-fit ops [] = tt
-fit ops (x ∷ xs) =
-    fit-before (answer_of ops x) (part_of (answer_of ops x)) ops (text_under (operators_after (part_of (answer_of ops x)) ops) xs) refl
-    (fit (operators_after (part_of (answer_of ops x)) ops) xs)
+fit-errors : (line : ℕ) (o : Option Fault) → AreFit (error_items line o)
+fit-errors line None = tt
+fit-errors line (Some fault) = (tt, tt)
 
-Legal-load : (sizes : Sizes) (x : Loaded) (items : List Item) → AreFit items → Legal sizes.words sizes.updates x.journal → Legal sizes.words sizes.updates (load sizes x items).journal
-Legal-load sizes x [] fits legal = legal
-Legal-load sizes x (a_clause line i c ∷ items) fits legal =
-    Legal-load sizes (after_clause sizes line i c x) items fits.1 (Legal-with_clause sizes x.journal i c legal fits.0.named fits.0.clause)
-Legal-load sizes x (an_error line fault at ∷ items) fits legal = Legal-load sizes (after_error line fault at x) items fits.1 legal
+-- the items of a read-term that is no directive
+fit-term : (p : Part) (ops : Table) → IsReadyPart p → AreFit (items_of p ops)
+fit-term (Clause line i c) ops h = (h, tt)
+fit-term (Operators line d) ops h = fit-errors line (error_of ops d)
+fit-term (Goal g) ops h = (tt, tt)
+fit-term (Kept g) ops h = tt
+fit-term Nothing ops h = tt
+fit-term (Raises line fault at) ops h = (tt, tt)
+
+fit-directive : (n : ℕ) (shown : List Shown) (d : Directive) (ops : Table) → AreFit (items_of (part_of_directive n shown d) ops)
+fit-directive n shown (ForOperators d) ops = fit-errors n (error_of ops d)
+fit-directive n shown ForNothing ops = tt
+fit-directive n shown (ForTheEnd g) ops = tt
+fit-directive n shown (ToRun g) ops = (tt, tt)
+
+fit-part : (n : ℕ) (r : Reading) (o : Option Directive) (ops : Table) → AreFit (items_of (part_with n r o) ops)
+fit-part n r None ops = fit-term (part_of_term n r.term (indicator_of r.term)) ops (ready-term n r.term (indicator_of r.term))
+fit-part n r (Some d) ops = fit-directive n r.shown d ops
+
+fit-answer : (a : Answer) (ops : Table) (kept : List TextGoal) (behind : Part → ReadText) → ((p : Part) → AreFit (behind p).items)
+    → AreFit (before (next_of a) ops kept behind).items
+fit-answer (a_term n r) ops kept behind h =
+    let p : Part = part_of n r in
+    fit-both (items_of p ops) (behind p).items (fit-part n r (directive_of r.term) ops) (h p)
+fit-answer (refusal n f) ops kept behind h = tt
+fit-answer nothing ops kept behind h = fit-goals kept
+
+fit : (ops : Table) (kept : List TextGoal) (xs : List Sentence) → AreFit (text_under ops kept xs).items
+fit ops kept [] = fit-goals kept
+fit ops kept (x ∷ xs) =
+    fit-answer (answer_of ops x) ops kept (λ (p : Part). text_under (operators_after p ops) (kept_after p kept) xs)
+    (λ (p : Part). fit (operators_after p ops) (kept_after p kept) xs)
+
+Legal-after : (sizes : Sizes) (J : Journal) (items : List Item) → AreFit items → Legal sizes.words sizes.updates J → Legal sizes.words sizes.updates (journal_after sizes J items)
+Legal-after sizes J [] fits legal = legal
+Legal-after sizes J (a_clause line i c ∷ items) fits legal =
+    Legal-after sizes (with_clause sizes J i c).journal items fits.1 (Legal-with_clause sizes J i c legal fits.0.named fits.0.clause)
+Legal-after sizes J (an_error line fault at ∷ items) fits legal = Legal-after sizes J items fits.1 legal
+Legal-after sizes J (a_goal g ∷ items) fits legal = Legal-after sizes J items fits.1 legal
 
 pub Legal-journal_of : (sizes : Sizes) (text : List ℕ) → Legal sizes.words sizes.updates (journal_of sizes text)
-unfolding load_of text_of
+unfolding text_of
 Legal-journal_of sizes text =
-    Legal-load sizes unloaded (text_under initial_operators (sentences (tokens text))).items (fit initial_operators (sentences (tokens text))) (Legal-nil sizes.words sizes.updates)
+    Legal-after sizes [] (text_under initial_operators [] (sentences (tokens text))).items (fit initial_operators [] (sentences (tokens text))) (Legal-nil sizes.words sizes.updates)
+
+-- ---- one load behind another
+
+pub Loads-append : (sizes : Sizes) (budget : ℕ) (s : Loaded) (xs ys : List Item) (u t : Loaded) → Loads sizes budget s xs u → Loads sizes budget u ys t → Loads sizes budget s (xs ++ ys) t
+Loads-append sizes budget s [] ys u t h k = subst (λ (z : Loaded). Loads sizes budget z ys t) h k
+Loads-append sizes budget s (a_clause line i c ∷ xs) ys u t h k = Loads-append sizes budget (after_clause sizes line i c s) xs ys u t h k
+Loads-append sizes budget s (an_error line fault at ∷ xs) ys u t h k = Loads-append sizes budget (after_error line fault at s) xs ys u t h k
+Loads-append sizes budget s (a_goal g ∷ xs) ys u t h k = (h.0, (h.1.0, Loads-append sizes budget (with_run s h.0) xs ys u t h.1.1 k))
+
+-- whatever the runs are, the journal is that of the clauses
+Loads-journal : (sizes : Sizes) (budget : ℕ) (s : Loaded) (xs : List Item) (t : Loaded) → Loads sizes budget s xs t → t.journal ≡ journal_after sizes s.journal xs
+Loads-journal sizes budget s [] t h = ap (λ (z : Loaded). z.journal) h
+Loads-journal sizes budget s (a_clause line i c ∷ xs) t h = Loads-journal sizes budget (after_clause sizes line i c s) xs t h
+Loads-journal sizes budget s (an_error line fault at ∷ xs) t h = Loads-journal sizes budget (after_error line fault at s) xs t h
+Loads-journal sizes budget s (a_goal g ∷ xs) t h = Loads-journal sizes budget (with_run s h.0) xs t h.1.1
 
 -- ---- the loop of a load
 
-abbrev pub loaded_in : Plain → List Run → Loaded
-loaded_in b runs = record { journal = b.entries; runs = runs }
-
--- the base is an empty one of these sizes, but for its entries
-abbrev pub holding : Sizes → Journal → Plain
-holding sizes J = record { number = 0; words = sizes.words; updates = sizes.updates; entries = J; out = 0 }
-
 -- what a text begins as
 abbrev pub text_whole : List ℕ → ReadText
-text_whole text = text_at initial_operators (tokens text)
+text_whole text = text_at initial_operators [] (tokens text)
+
+abbrev pub AreAllShown : List TextGoal → Type 0
+AreAllShown kept = All (λ (g : TextGoal). AreShown g.goal) kept
 
 -- what a load has done, and what is ahead, come to what the whole text does
-pub record IsLoading (sizes : Sizes) (b : Plain) (ops : Table) (runs : List Run) (s : Stream) (text : List ℕ) : Type 0 where
+pub record IsLoading (sizes : Sizes) (budget : ℕ) (b : Plain) (ops : Table) (runs : List Run) (kept : List TextGoal) (s : Stream) (text : List ℕ) : Type 0 where
   pub base : b ≡ holding sizes b.entries
-  pub loads : load sizes (loaded_in b runs) (text_at ops s).items ≡ load sizes unloaded (text_whole text).items
-  pub operators : (text_at ops s).operators ≡ (text_whole text).operators
-  pub refuses : (text_at ops s).refused ≡ (text_whole text).refused
+  pub loads : (t : Loaded) → Loads sizes budget (loaded_in b runs) (text_at ops kept s).items t → Loads sizes budget unloaded (text_whole text).items t
+  pub operators : (text_at ops kept s).operators ≡ (text_whole text).operators
+  pub refuses : (text_at ops kept s).refused ≡ (text_whole text).refused
+  pub shown : AreAllShown kept
 
-pub loading-first : (sizes : Sizes) (b : Plain) (ops : Table) (runs : List Run) (s : Stream) (text : List ℕ) → b ≡ holding sizes [] → ops ≡ initial_operators → runs ≡ [] → s ≡ tokens text
-    → IsLoading sizes b ops runs s text
-loading-first sizes b ops runs s text is table none from =
-    let first : IsLoading sizes (holding sizes []) initial_operators [] (tokens text) text = record { base = refl; loads = refl; operators = refl; refuses = refl } in
-    subst (λ (x : Plain). IsLoading sizes x ops runs s text) (sym is)
-    (subst (λ (t : Table). IsLoading sizes (holding sizes []) t runs s text) (sym table)
-    (subst (λ (l : List Run). IsLoading sizes (holding sizes []) initial_operators l s text) (sym none)
-    (subst (λ (r : Stream). IsLoading sizes (holding sizes []) initial_operators [] r text) (sym from) first)))
+pub loading-first : (sizes : Sizes) (budget : ℕ) (b : Plain) (ops : Table) (runs : List Run) (kept : List TextGoal) (s : Stream) (text : List ℕ)
+    → b ≡ holding sizes [] → ops ≡ initial_operators → runs ≡ [] → kept ≡ [] → s ≡ tokens text → IsLoading sizes budget b ops runs kept s text
+loading-first sizes budget b ops runs kept s text is table empty nothing_kept from =
+    let first : IsLoading sizes budget (holding sizes []) initial_operators [] [] (tokens text) text =
+    record { base = refl; loads = λ t k. k; operators = refl; refuses = refl; shown = All-nil (λ (g : TextGoal). AreShown g.goal) } in
+    subst (λ (x : Plain). IsLoading sizes budget x ops runs kept s text) (sym is)
+    (subst (λ (t : Table). IsLoading sizes budget (holding sizes []) t runs kept s text) (sym table)
+    (subst (λ (l : List Run). IsLoading sizes budget (holding sizes []) initial_operators l kept s text) (sym empty)
+    (subst (λ (l : List TextGoal). IsLoading sizes budget (holding sizes []) initial_operators [] l s text) (sym nothing_kept)
+    (subst (λ (r : Stream). IsLoading sizes budget (holding sizes []) initial_operators [] [] r text) (sym from) first))))
 
--- a clause is taken, and the load goes on
-pub loading-clause : (sizes : Sizes) (b d : Plain) (ops : Table) (runs more : List Run) (s r : Stream) (text : List ℕ) (line : ℕ) (i : Indicator) (c : AClause) (fits : Bool)
-    → IsLoading sizes b ops runs s text → Clause line i c ≡ part_at ops s → r ≡ (tail s).rest
-    → HasClause b d i c fits → more ≡ runs ++ run_unless fits line → IsLoading sizes d ops more r text
-loading-clause sizes b d ops runs more s r text line i c fits h e rest has adds =
-    let p : Placed = with_clause sizes b.entries i c in
-    let same : sizes_of b ≡ sizes = ap sizes_of h.base in
-    let now : d ≡ holding sizes p.journal =
-    has.base ∙ ap (λ (z : Sizes). record b { entries = (with_clause z b.entries i c).journal }) same ∙ ap (λ (z : Plain). record z { entries = p.journal }) h.base in
-    let room : fits ≡ p.fits = has.room ∙ ap (λ (z : Sizes). (with_clause z b.entries i c).fits) same in
-    let runs_are : more ≡ runs ++ run_unless p.fits line = adds ∙ ap (λ (q : Bool). runs ++ run_unless q line) room in
-    let goes = text-goes ops s (Clause line i c) (sym e) tt in
-    let whole : IsLoading sizes (holding sizes p.journal) ops (runs ++ run_unless p.fits line) (tail s).rest text = record {
-      base = refl;
-      loads = sym (ap (λ (t : ReadText). load sizes (loaded_in b runs) t.items) goes) ∙ h.loads;
-      operators = sym (ap (λ (t : ReadText). t.operators) goes) ∙ h.operators;
-      refuses = sym (ap (λ (t : ReadText). t.refused) goes) ∙ h.refuses;
-    } in
-    subst (λ (x : Plain). IsLoading sizes x ops more r text) (sym now)
-    (subst (λ (l : List Run). IsLoading sizes (holding sizes p.journal) ops l r text) (sym runs_are)
-    (subst (λ (x : Stream). IsLoading sizes (holding sizes p.journal) ops (runs ++ run_unless p.fits line) x text) (sym rest) whole))
+-- the shown variables of each goal that is kept stand in it
+kept-goes : (p : Part) (kept : List TextGoal) → IsReadyPart p → AreAllShown kept → AreAllShown (kept_after p kept)
+kept-goes (Clause line i c) kept h k = k
+kept-goes (Operators line d) kept h k = k
+kept-goes (Goal g) kept h k = k
+kept-goes (Kept g) kept h k =
+    let P : TextGoal → Type 0 = λ g. AreShown g.goal in
+    All-append P kept (g ∷ []) k (All-cons P g [] h (All-nil P))
+kept-goes Nothing kept h k = k
+kept-goes (Raises line fault at) kept h k = k
 
-load-error : (sizes : Sizes) (x : Loaded) (line : ℕ) (o : Option Fault) (items : List Item)
-    → load sizes x (with_error line o items) ≡ load sizes (record x { runs = x.runs ++ error_runs line o }) items
-load-error sizes x line None items = ap (λ (l : List Run). load sizes (record x { runs = l }) items) (sym (append-nil x.runs))
-load-error sizes x line (Some fault) items = refl
-
--- operators are declared, or a run says why they aren't, and the load goes on
-pub loading-operators : (sizes : Sizes) (b : Plain) (ops new : Table) (runs more : List Run) (s r : Stream) (text : List ℕ) (line : ℕ) (d : Declaring)
-    → IsLoading sizes b ops runs s text → Operators line d ≡ part_at ops s → r ≡ (tail s).rest
-    → new ≡ table_after ops d → more ≡ runs ++ error_runs line (error_of ops d) → IsLoading sizes b new more r text
-loading-operators sizes b ops new runs more s r text line d h e rest table adds =
-    let goes = text-goes ops s (Operators line d) (sym e) tt in
-    let whole : IsLoading sizes b (table_after ops d) (runs ++ error_runs line (error_of ops d)) (tail s).rest text = record {
-      base = h.base;
-      loads = sym (load-error sizes (loaded_in b runs) line (error_of ops d) (text_at (table_after ops d) (tail s).rest).items)
-          ∙ sym (ap (λ (t : ReadText). load sizes (loaded_in b runs) t.items) goes) ∙ h.loads;
-      operators = sym (ap (λ (t : ReadText). t.operators) goes) ∙ h.operators;
-      refuses = sym (ap (λ (t : ReadText). t.refused) goes) ∙ h.refuses;
-    } in
-    subst (λ (t : Table). IsLoading sizes b t more r text) (sym table)
-    (subst (λ (l : List Run). IsLoading sizes b (table_after ops d) l r text) (sym adds)
-    (subst (λ (x : Stream). IsLoading sizes b (table_after ops d) (runs ++ error_runs line (error_of ops d)) x text) (sym rest) whole))
+-- a read-term is taken, and the load goes on
+pub loading-goes : (sizes : Sizes) (budget : ℕ) (old new : Loading) (s r : Stream) (text : List ℕ) (p : Part)
+    → IsLoading sizes budget old.base old.ops old.runs old.kept s text → next_at old.ops s ≡ Taken p → r ≡ (tail s).rest → IsReadyPart p → Takes budget old new p
+    → IsLoading sizes budget new.base new.ops new.runs new.kept r text
+loading-goes sizes budget old new s r text p h e rest ready takes =
+    let goes = text-goes old.ops old.kept s p e in
+    let behind : ReadText = text_at (operators_after p old.ops) (kept_after p old.kept) (tail s).rest in
+    let same : text_at new.ops new.kept r ≡ behind =
+    ap (λ (t : Table). text_at t new.kept r) takes.operators
+    ∙ ap (λ (l : List TextGoal). text_at (operators_after p old.ops) l r) takes.kept
+    ∙ ap (λ (x : Stream). text_at (operators_after p old.ops) (kept_after p old.kept) x) rest in
+    let loads : Loads sizes budget (loaded_in old.base old.runs) (items_of p old.ops) (loaded_in new.base new.runs) =
+    subst (λ (z : Sizes). Loads z budget (loaded_in old.base old.runs) (items_of p old.ops) (loaded_in new.base new.runs)) (ap sizes_of h.base) takes.loads in
+    record {
+      base = takes.base ∙ ap (λ (b : Plain). record b { entries = new.base.entries }) h.base;
+      loads = λ t k. h.loads t (subst (λ (x : ReadText). Loads sizes budget (loaded_in old.base old.runs) x.items t) (sym goes)
+          (Loads-append sizes budget (loaded_in old.base old.runs) (items_of p old.ops) behind.items (loaded_in new.base new.runs) t loads
+          (subst (λ (x : ReadText). Loads sizes budget (loaded_in new.base new.runs) x.items t) same k)));
+      operators = ap (λ (x : ReadText). x.operators) same ∙ (sym (ap (λ (x : ReadText). x.operators) goes) ∙ h.operators);
+      refuses = ap (λ (x : ReadText). x.refused) same ∙ (sym (ap (λ (x : ReadText). x.refused) goes) ∙ h.refuses);
+      shown = subst AreAllShown (sym takes.kept) (kept-goes p old.kept ready h.shown);
+    }
 
 -- ---- the end of a load
 
-pub record IsLoaded (sizes : Sizes) (b : Plain) (ops : Table) (runs : List Run) (refused : Option Refusal) (text : List ℕ) : Type 0 where
-  pub base : b ≡ holding sizes (load sizes unloaded (text_whole text).items).journal
-  pub runs_are : runs ≡ (load sizes unloaded (text_whole text).items).runs
-  pub operators : ops ≡ (text_whole text).operators
-  pub refuses : refused ≡ (text_whole text).refused
+pub record IsLoaded (sizes : Sizes) (budget : ℕ) (b : Plain) (ops : Table) (runs : List Run) (refused : Option Refusal) (text : List ℕ) : Type 0 where
+  pub base : b ≡ holding sizes (journal_of sizes text)
+  pub loads : IsLoadOf sizes budget text b.entries runs
+  pub operators : ops ≡ operators_of text
+  pub refuses : refused ≡ refusal_of text
 
-pub loading-over : (sizes : Sizes) (b : Plain) (ops : Table) (runs : List Run) (s : Stream) (refused : Option Refusal) (text : List ℕ) → IsLoading sizes b ops runs s text
-    → text_at ops s ≡ record { items = []; operators = ops; refused = refused } → IsLoaded sizes b ops runs refused text
-loading-over sizes b ops runs s refused text h e =
-    let same : loaded_in b runs ≡ load sizes unloaded (text_whole text).items = sym (ap (λ (t : ReadText). load sizes (loaded_in b runs) t.items) e) ∙ h.loads in
+-- the items ahead have led to this base and these runs
+loading-over : (sizes : Sizes) (budget : ℕ) (b after : Plain) (ops : Table) (runs all : List Run) (kept : List TextGoal) (s : Stream) (items : List Item) (refused : Option Refusal) (text : List ℕ)
+    → IsLoading sizes budget b ops runs kept s text → text_at ops kept s ≡ record { items = items; operators = ops; refused = refused } → after ≡ b
+    → Loads sizes budget (loaded_in b runs) items (loaded_in after all) → IsLoaded sizes budget after ops all refused text
+unfolding text_of
+loading-over sizes budget b after ops runs all kept s items refused text h e same k =
+    let whole : Loads sizes budget unloaded (text_whole text).items (loaded_in after all) =
+    h.loads (loaded_in after all) (subst (λ (x : ReadText). Loads sizes budget (loaded_in b runs) x.items (loaded_in after all)) (sym e) k) in
+    let journal : after.entries ≡ journal_of sizes text = Loads-journal sizes budget unloaded (text_whole text).items (loaded_in after all) whole in
     record {
-      base = h.base ∙ ap (λ (x : Loaded). holding sizes x.journal) same;
-      runs_are = ap (λ (x : Loaded). x.runs) same;
+      base = same ∙ h.base ∙ ap (holding sizes) (ap (λ (x : Plain). x.entries) (sym same) ∙ journal);
+      loads = whole;
       operators = sym (ap (λ (t : ReadText). t.operators) e) ∙ h.operators;
       refuses = sym (ap (λ (t : ReadText). t.refused) e) ∙ h.refuses;
     }
 
-pub loading-refused : (sizes : Sizes) (b : Plain) (ops : Table) (runs : List Run) (s : Stream) (r : Refusal) (text : List ℕ) → IsLoading sizes b ops runs s text
-    → Refused r ≡ part_at ops s → IsLoaded sizes b ops runs (Some r) text
-loading-refused sizes b ops runs s r text h e = loading-over sizes b ops runs s (Some r) text h (text-refused ops s r (sym e))
+pub loading-refused : (sizes : Sizes) (budget : ℕ) (b : Plain) (ops : Table) (runs : List Run) (kept : List TextGoal) (s : Stream) (r : Refusal) (text : List ℕ)
+    → IsLoading sizes budget b ops runs kept s text → next_at ops s ≡ Refused r → IsLoaded sizes budget b ops runs (Some r) text
+loading-refused sizes budget b ops runs kept s r text h e = loading-over sizes budget b b ops runs runs kept s [] (Some r) text h (text-refused ops kept s r e) refl refl
 
-pub loading-end : (sizes : Sizes) (b : Plain) (ops : Table) (runs : List Run) (s : Stream) (text : List ℕ) → IsLoading sizes b ops runs s text
-    → End ≡ part_at ops s → IsLoaded sizes b ops runs None text
-loading-end sizes b ops runs s text h e = loading-over sizes b ops runs s None text h (text-end ops s (sym e))
+-- the goals that were kept have been run
+pub loading-end : (sizes : Sizes) (budget : ℕ) (b after : Plain) (ops : Table) (runs all : List Run) (kept : List TextGoal) (s : Stream) (text : List ℕ)
+    → IsLoading sizes budget b ops runs kept s text → next_at ops s ≡ End → after ≡ b
+    → Loads (sizes_of b) budget (loaded_in b runs) (goals kept) (loaded_in after all) → IsLoaded sizes budget after ops all None text
+loading-end sizes budget b after ops runs all kept s text h e same k =
+    loading-over sizes budget b after ops runs all kept s (goals kept) None text h (text-end ops kept s e) same
+    (subst (λ (z : Sizes). Loads z budget (loaded_in b runs) (goals kept) (loaded_in after all)) (ap sizes_of h.base) k)
+
+pub loading-number : (sizes : Sizes) (budget : ℕ) (b : Plain) (ops : Table) (runs : List Run) (kept : List TextGoal) (s : Stream) (text : List ℕ)
+    → IsLoading sizes budget b ops runs kept s text → IsOfLoad b
+loading-number sizes budget b ops runs kept s text h = record { number = ap (λ (x : Plain). x.number) h.base; out = ap (λ (x : Plain). x.out) h.base }

@@ -18,25 +18,31 @@ use Rattle.prolog_session.specs.declared.prepare.Prepared.{Prepared}
 use Rattle.prolog_session.specs.declared.prepare.Prepared.TheVariants.{BadWords, SourceFailed, TooLong, Refused, Ran}
 use Rattle.prolog_session.specs.WholeText.{max_text}
 use Rattle.prolog_session.specs.Sinks.{AppendsPrefix}
-use Rattle.prolog_session.specs.Load.{load_runs_of, operators_of, refusal_of}
+use Rattle.prolog_session.specs.Load.{IsLoadOf, operators_of, refusal_of}
 use Rattle.prolog_session.specs.Errors.{bad_words_text, source_text, too_long_text, refusal_text}
-use Rattle.prolog_session.specs.Headline.{IsRun, HasRuns, IsLoaded, IsEmpty, IsStatus, expected, expected_of, Ends, IsTooLong, HasLoaded, HasRun, HasWritten, HasRefused, Gains, HasBegun, of_bad_words, of_source, of_too_long, of_refusal, of_runs}
-use Rattle.prolog_session.specs.Runs.{AreRunsBehind}
+use Rattle.prolog_session.specs.Headline.{IsRun, HasRuns, IsLoaded, IsEmpty, IsStatus, expected, expected_of, Ends, IsTooLong, HasLoaded, AreRunsOf, HasRun, HasWritten, HasRefused, Gains, HasBegun, of_bad_words, of_source, of_too_long, of_refusal, of_runs}
 use Rattle.prolog_session.specs.Output.{load_text, output_of}
 use Rattle.prolog_session.specs.Prepared.{Prepares, HasRunUnder, status_before}
 use Rattle.prolog_session.specs.Ends.{final_status, final_journal, final_runs, runs_left, shown}
 use Rattle.prolog_session.proofs.Loads.{Legal-journal_of}
-use Rattle.prolog_session.proofs.Rows.{status_small, is_not, run_is_not, run_is_not_2, run_is_not_3, run_is_not_4, run_is_not_5, run_is_not_8, not_ran, told_long, told_fits, told_runs, told_refusal, told_operators}
+use Rattle.prolog_session.proofs.Rows.{status_small, is_not, run_is_not, run_is_not_2, run_is_not_3, run_is_not_4, run_is_not_5, run_is_not_8, not_ran, told_long, told_fits, told_loads, told_refusal, told_operators}
 
 -- ---- the outcome
 
--- where the text was refused, the runs are the load's
+asked_loads : (sizes : Sizes) (command : Option Command) (asked : Command) (bytes : List ℕ) (journal : Journal) (runs : List Run) → command ≡ Some asked
+    → IsLoadOf sizes asked.steps bytes journal runs → IfSome command (λ c. IsLoadOf sizes c.steps bytes journal runs)
+asked_loads sizes command asked bytes journal runs e h = subst (λ (o : Option Command). IfSome o (λ c. IsLoadOf sizes c.steps bytes journal runs)) (sym e) h
+
+-- where the text was refused, the journal and the runs are the load's
 pub load_runs_row : (sizes : Sizes) (command : Option Command) (so sn : Option (List ℕ)) (p : Result Prepared Want) (w : Written) →
-    IfOk p (Prepares sizes command so sn) → final_status p w ≡ 3 → IfSome so (λ text. final_runs p w ≡ load_runs_of sizes text)
+    IfOk p (Prepares sizes command so sn) → final_status p w ≡ 3
+    → IfSome so (λ text. IfSome command (λ asked. IsLoadOf sizes asked.steps text (final_journal p w) (final_runs p w)))
 load_runs_row sizes command None sn p w h e = tt
 load_runs_row sizes command (Some bytes) sn (Err want) w h e = absurd (omega arith)
-load_runs_row sizes command (Some bytes) sn (Ok (Refused journal runs ops refusal)) Wrote h e = told_runs sizes bytes sn journal runs (Some refusal) h.1.loaded
-load_runs_row sizes command (Some bytes) sn (Ok (Refused journal runs ops refusal)) Cut h e = told_runs sizes bytes sn journal runs (Some refusal) h.1.loaded
+load_runs_row sizes command (Some bytes) sn (Ok (Refused journal runs ops refusal)) Wrote h e =
+    asked_loads sizes command h.asked bytes journal runs h.asked_is (told_loads sizes h.asked.steps bytes sn journal runs (Some refusal) h.loaded)
+load_runs_row sizes command (Some bytes) sn (Ok (Refused journal runs ops refusal)) Cut h e =
+    asked_loads sizes command h.asked bytes journal runs h.asked_is (told_loads sizes h.asked.steps bytes sn journal runs (Some refusal) h.loaded)
 load_runs_row sizes command (Some bytes) sn (Ok (Ran journal runs ops)) Wrote h e = absurd (run_is_not_3 runs e)
 load_runs_row sizes command (Some bytes) sn (Ok p) Wrote h e = absurd (omega arith)
 load_runs_row sizes command (Some bytes) sn (Ok p) Cut h e = absurd (omega arith)
@@ -58,14 +64,13 @@ ran_row sizes command so sn (Ok (Refused journal runs ops refusal)) Cut h e = ab
 ran_row sizes command so sn (Ok (Ran journal runs ops)) Wrote h e = h.run
 ran_row sizes command so sn (Ok (Ran journal runs ops)) Cut h e = h.run
 
--- where the source tells its text, the runs begin with those of its load
+-- where the source tells its text, the runs are those of its load and of the command
 pub runs_told : (sizes : Sizes) (command : Option Command) (so sn : Option (List ℕ)) (journal : Journal) (runs : List Run) → HasRun sizes command so sn journal runs
-    → IfSome so (λ text. IfSome command (λ asked. AreRunsBehind (load_runs_of sizes text) asked journal runs))
+    → IfSome so (λ text. IfSome command (λ asked. AreRunsOf sizes text asked journal runs))
 runs_told sizes command None sn journal runs h = tt
 runs_told sizes command (Some bytes) sn journal runs h =
-    let loads : h.loads ≡ load_runs_of sizes bytes = told_runs sizes bytes sn journal h.loads None h.loaded in
-    let P : Option Command → Type 0 = λ c. IfSome c (λ asked. AreRunsBehind (load_runs_of sizes bytes) asked journal runs) in
-    subst P (sym h.asked_is) (subst (λ (l : List Run). AreRunsBehind l h.asked journal runs) loads h.runs_are)
+    let P : Option Command → Type 0 = λ c. IfSome c (λ asked. AreRunsOf sizes bytes asked journal runs) in
+    subst P (sym h.asked_is) (record { loads = h.loads; of_load = told_loads sizes h.asked.steps bytes sn journal h.loads None h.loaded; behind = h.runs_are })
 
 -- where neither the journal nor the runs are told, the status is none of these
 record IsApart (k : ℕ) : Type 0 where
@@ -97,9 +102,9 @@ not_loaded k e (inl (inl (inr (inr h)))) = (apart k e).not_7 h
 not_loaded k e (inl (inr h)) = (apart k e).not_5 h
 not_loaded k e (inr h) = (apart k e).not_3 h
 
-loaded_legal : (sizes : Sizes) (so sn : Option (List ℕ)) (journal : Journal) (runs : List Run) (refused : Option Refusal) → HasLoaded sizes so sn journal runs refused
+loaded_legal : (sizes : Sizes) (budget : ℕ) (so sn : Option (List ℕ)) (journal : Journal) (runs : List Run) (refused : Option Refusal) → HasLoaded sizes budget so sn journal runs refused
     → Legal sizes.words sizes.updates journal
-loaded_legal sizes so sn journal runs refused h = subst (Legal sizes.words sizes.updates) (sym h.journal_is) (Legal-journal_of sizes h.text)
+loaded_legal sizes budget so sn journal runs refused h = subst (Legal sizes.words sizes.updates) (sym h.journal_is) (Legal-journal_of sizes h.text)
 
 pub legal_row : (sizes : Sizes) (command : Option Command) (so sn : Option (List ℕ)) (p : Result Prepared Want) (w : Written) →
     IfOk p (Prepares sizes command so sn) → IsLoaded (final_status p w) → Legal sizes.words sizes.updates (final_journal p w)
@@ -111,10 +116,10 @@ legal_row sizes command so sn (Ok SourceFailed) Wrote h e = absurd (not_loaded 4
 legal_row sizes command so sn (Ok SourceFailed) Cut h e = absurd (not_loaded 4 (inr (inl refl)) e)
 legal_row sizes command so sn (Ok TooLong) Wrote h e = absurd (not_loaded 8 (inr (inr (inr refl))) e)
 legal_row sizes command so sn (Ok TooLong) Cut h e = absurd (not_loaded 8 (inr (inr (inr refl))) e)
-legal_row sizes command so sn (Ok (Refused journal runs ops refusal)) Wrote h e = loaded_legal sizes so sn journal runs (Some refusal) h.1.loaded
-legal_row sizes command so sn (Ok (Refused journal runs ops refusal)) Cut h e = loaded_legal sizes so sn journal runs (Some refusal) h.1.loaded
-legal_row sizes command so sn (Ok (Ran journal runs ops)) Wrote h e = loaded_legal sizes so sn journal h.run.loads None h.run.loaded
-legal_row sizes command so sn (Ok (Ran journal runs ops)) Cut h e = loaded_legal sizes so sn journal h.run.loads None h.run.loaded
+legal_row sizes command so sn (Ok (Refused journal runs ops refusal)) Wrote h e = loaded_legal sizes h.asked.steps so sn journal runs (Some refusal) h.loaded
+legal_row sizes command so sn (Ok (Refused journal runs ops refusal)) Cut h e = loaded_legal sizes h.asked.steps so sn journal runs (Some refusal) h.loaded
+legal_row sizes command so sn (Ok (Ran journal runs ops)) Wrote h e = loaded_legal sizes h.run.asked.steps so sn journal h.run.loads None h.run.loaded
+legal_row sizes command so sn (Ok (Ran journal runs ops)) Cut h e = loaded_legal sizes h.run.asked.steps so sn journal h.run.loads None h.run.loaded
 
 -- ---- what the sink gained
 
@@ -168,12 +173,12 @@ refused_gains rk ko kn ops other runs refusal same h = subst (λ (t : Table). Ga
 -- a text that was refused, and the text of its refusal
 pub in_part_row : (sizes : Sizes) (command : Option Command) (so sn ko kn : Option (List ℕ)) (rk : Type 0) (p : Result Prepared Want) (w : Written) →
     IfOk p (Prepares sizes command so sn) → AppendsPrefix ko kn (shown p) → (w ≡ Wrote → Appends ko kn (shown p)) → (w ≡ Cut → rk) →
-    final_status p w ≡ 3 → HasRefused sizes so sn (final_journal p w) (final_runs p w) rk ko kn
+    final_status p w ≡ 3 → HasRefused sizes command so sn (final_journal p w) (final_runs p w) rk ko kn
 in_part_row sizes command so sn ko kn rk (Err want) w h prefix whole cut e = absurd (omega arith)
 in_part_row sizes command so sn ko kn rk (Ok (Refused journal runs ops refusal)) Wrote h prefix whole cut e =
-    record { refusal = refusal; loaded = h.1.loaded; gains = refused_gains rk ko kn ops (operators_of h.1.loaded.text) runs refusal h.1.operators (gains rk ko kn (load_text ops runs ++ refusal_text refusal) Wrote prefix whole cut (λ f. cc)) }
+    record { asked = h.asked; asked_is = h.asked_is; refusal = refusal; loaded = h.loaded; gains = refused_gains rk ko kn ops (operators_of h.loaded.text) runs refusal h.operators (gains rk ko kn (load_text ops runs ++ refusal_text refusal) Wrote prefix whole cut (λ f. cc)) }
 in_part_row sizes command so sn ko kn rk (Ok (Refused journal runs ops refusal)) Cut h prefix whole cut e =
-    record { refusal = refusal; loaded = h.1.loaded; gains = refused_gains rk ko kn ops (operators_of h.1.loaded.text) runs refusal h.1.operators (gains rk ko kn (load_text ops runs ++ refusal_text refusal) Cut prefix whole cut (λ f. cc)) }
+    record { asked = h.asked; asked_is = h.asked_is; refusal = refusal; loaded = h.loaded; gains = refused_gains rk ko kn ops (operators_of h.loaded.text) runs refusal h.operators (gains rk ko kn (load_text ops runs ++ refusal_text refusal) Cut prefix whole cut (λ f. cc)) }
 in_part_row sizes command so sn ko kn rk (Ok (Ran journal runs ops)) Wrote h prefix whole cut e = absurd (run_is_not_3 runs e)
 in_part_row sizes command so sn ko kn rk (Ok p) Wrote h prefix whole cut e = absurd (omega arith)
 in_part_row sizes command so sn ko kn rk (Ok p) Cut h prefix whole cut e = absurd (omega arith)
@@ -216,15 +221,15 @@ pub output_told_row : (sizes : Sizes) (command : Option Command) (so sn ko kn : 
     → HasWritten sizes command so sn journal runs (λ output. Appends ko kn output) → IfSome so (λ text. Appends ko kn (output_of (operators_of text) runs))
 output_told_row sizes command None sn ko kn journal runs h = tt
 output_told_row sizes command (Some bytes) sn ko kn journal runs h =
-    subst (λ (t : Table). Appends ko kn (output_of t runs)) (told_operators sizes bytes sn journal h.run.loads None h.run.loaded) h.writes
+    subst (λ (t : Table). Appends ko kn (output_of t runs)) (told_operators sizes h.run.asked.steps bytes sn journal h.run.loads None h.run.loaded) h.writes
 
-pub refusal_told_row : (sizes : Sizes) (so sn ko kn : Option (List ℕ)) (journal : Journal) (runs : List Run) (rk : Type 0) → HasRefused sizes so sn journal runs rk ko kn
+pub refusal_told_row : (sizes : Sizes) (command : Option Command) (so sn ko kn : Option (List ℕ)) (journal : Journal) (runs : List Run) (rk : Type 0) → HasRefused sizes command so sn journal runs rk ko kn
     → IfSome so (λ text. IfSome (refusal_of text) (λ refusal. Gains rk ko kn (load_text (operators_of text) runs ++ refusal_text refusal)))
-refusal_told_row sizes None sn ko kn journal runs rk h = tt
-refusal_told_row sizes (Some bytes) sn ko kn journal runs rk h =
+refusal_told_row sizes command None sn ko kn journal runs rk h = tt
+refusal_told_row sizes command (Some bytes) sn ko kn journal runs rk h =
     let P : Option Refusal → Type 0 = λ o. IfSome o (λ refusal. Gains rk ko kn (load_text (operators_of bytes) runs ++ refusal_text refusal)) in
-    subst P (sym (told_refusal sizes bytes sn journal runs (Some h.refusal) h.loaded))
-    (refused_gains rk ko kn (operators_of h.loaded.text) (operators_of bytes) runs h.refusal (told_operators sizes bytes sn journal runs (Some h.refusal) h.loaded) h.gains)
+    subst P (sym (told_refusal sizes h.asked.steps bytes sn journal runs (Some h.refusal) h.loaded))
+    (refused_gains rk ko kn (operators_of h.loaded.text) (operators_of bytes) runs h.refusal (told_operators sizes h.asked.steps bytes sn journal runs (Some h.refusal) h.loaded) h.gains)
 
 -- ---- no other status
 
@@ -249,11 +254,11 @@ is_some : (command : Option Command) (asked : Command) → command ≡ Some aske
 is_some None asked h = cc
 is_some (Some other) asked h = refl
 
-expected_loaded : (sizes : Sizes) (command : Option Command) (bytes : List ℕ) (sn : Option (List ℕ)) (journal : Journal) (loads : List Run) (refused : Option Refusal)
-    (runs : List Run) → IsSome command → HasLoaded sizes (Some bytes) sn journal loads refused → expected command bytes runs ≡ expected_of false refused runs
-expected_loaded sizes command bytes sn journal loads refused runs some h =
+expected_loaded : (sizes : Sizes) (budget : ℕ) (command : Option Command) (bytes : List ℕ) (sn : Option (List ℕ)) (journal : Journal) (loads : List Run) (refused : Option Refusal)
+    (runs : List Run) → IsSome command → HasLoaded sizes budget (Some bytes) sn journal loads refused → expected command bytes runs ≡ expected_of false refused runs
+expected_loaded sizes budget command bytes sn journal loads refused runs some h =
     taken command bytes runs some ∙ short bytes (refusal_of bytes) runs (told_fits bytes sn h.text h.took)
-    ∙ ap (λ (o : Option Refusal). expected_of false o runs) (told_refusal sizes bytes sn journal loads refused h)
+    ∙ ap (λ (o : Option Refusal). expected_of false o runs) (told_refusal sizes budget bytes sn journal loads refused h)
 
 -- what was prepared has the status that is expected
 expected_told : (sizes : Sizes) (command : Option Command) (bytes : List ℕ) (sn : Option (List ℕ)) (p : Prepared) → (p ≡ SourceFailed → ⊥) →
@@ -261,9 +266,10 @@ expected_told : (sizes : Sizes) (command : Option Command) (bytes : List ℕ) (s
 expected_told sizes command bytes sn BadWords other h = sym (no_command command bytes [] h.0)
 expected_told sizes command bytes sn SourceFailed other h = absurd (other refl)
 expected_told sizes command bytes sn TooLong other h = sym (taken command bytes [] h.0 ∙ long bytes (refusal_of bytes) [] (told_long bytes sn h.1))
-expected_told sizes command bytes sn (Refused journal runs ops refusal) other h = sym (expected_loaded sizes command bytes sn journal runs (Some refusal) runs h.0 h.1.loaded)
+expected_told sizes command bytes sn (Refused journal runs ops refusal) other h =
+    sym (expected_loaded sizes h.asked.steps command bytes sn journal runs (Some refusal) runs (is_some command h.asked h.asked_is) h.loaded)
 expected_told sizes command bytes sn (Ran journal runs ops) other h =
-    sym (expected_loaded sizes command bytes sn journal h.run.loads None runs (is_some command h.run.asked h.run.asked_is) h.run.loaded)
+    sym (expected_loaded sizes h.run.asked.steps command bytes sn journal h.run.loads None runs (is_some command h.run.asked h.run.asked_is) h.run.loaded)
 
 -- words that are taken lead to another status than 2
 not_two : (b : Bool) (o : Option Refusal) (runs : List Run) → expected_of b o runs ≡ 2 → ⊥
@@ -324,9 +330,9 @@ wanted_row sizes command so sn ko kn rs (Ok SourceFailed) h f prefix = inr (reco
 wanted_row sizes command so sn ko kn rs (Ok TooLong) h f prefix = inr (record { text = too_long_text; cause = of_too_long h.0 h.1; prefix = prefix })
 wanted_row sizes command so sn ko kn rs (Ok (Refused journal runs ops refusal)) h f prefix =
     inr (record {
-      text = load_text (operators_of h.1.loaded.text) runs ++ refusal_text refusal;
-      cause = of_refusal journal runs refusal h.0 h.1.loaded;
-      prefix = subst (λ (t : Table). AppendsPrefix ko kn (load_text t runs ++ refusal_text refusal)) h.1.operators prefix;
+      text = load_text (operators_of h.loaded.text) runs ++ refusal_text refusal;
+      cause = of_refusal h.asked journal runs refusal h.asked_is h.loaded;
+      prefix = subst (λ (t : Table). AppendsPrefix ko kn (load_text t runs ++ refusal_text refusal)) h.operators prefix;
     })
 wanted_row sizes command so sn ko kn rs (Ok (Ran journal runs ops)) h f prefix =
     inr (record {

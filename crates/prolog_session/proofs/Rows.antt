@@ -15,7 +15,7 @@ use Rattle.prolog_session.specs.declared.refusal.Refusal.{Refusal}
 use Rattle.prolog_session.specs.declared.prepare.Prepared.{Prepared}
 use Rattle.prolog_session.specs.declared.prepare.Prepared.TheVariants.{BadWords, SourceFailed, TooLong, Refused, Ran}
 use Rattle.prolog_session.specs.WholeText.{max_text}
-use Rattle.prolog_session.specs.Load.{load_runs_of, operators_of, refusal_of}
+use Rattle.prolog_session.specs.Load.{IsLoadOf, operators_of, refusal_of}
 use Rattle.prolog_session.specs.Runs.{status_of, ends_in_ball, ends_spent, EndsInBall, EndsSpent}
 use Rattle.prolog_session.specs.Headline.{IsRun, HasRuns, Took, IsTooLong, HasLoaded}
 use Rattle.prolog_session.specs.Prepared.{Prepares}
@@ -115,17 +115,17 @@ told_long bytes (Some rest) t =
 pub told_fits : (bytes : List ℕ) (sn : Option (List ℕ)) (text : List ℕ) → Took (Some bytes) sn text → length bytes ≤ max_text
 told_fits bytes sn text t = subst (λ (s : List ℕ). length s ≤ max_text) (told_text bytes sn text t) t.fits
 
-pub told_refusal : (sizes : Sizes) (bytes : List ℕ) (sn : Option (List ℕ)) (journal : Journal) (runs : List Run) (refused : Option Refusal)
-    → HasLoaded sizes (Some bytes) sn journal runs refused → refusal_of bytes ≡ refused
-told_refusal sizes bytes sn journal runs refused h = ap (λ (s : List ℕ). refusal_of s) (sym (told_text bytes sn h.text h.took)) ∙ h.refused_is
+pub told_refusal : (sizes : Sizes) (budget : ℕ) (bytes : List ℕ) (sn : Option (List ℕ)) (journal : Journal) (runs : List Run) (refused : Option Refusal)
+    → HasLoaded sizes budget (Some bytes) sn journal runs refused → refusal_of bytes ≡ refused
+told_refusal sizes budget bytes sn journal runs refused h = ap (λ (s : List ℕ). refusal_of s) (sym (told_text bytes sn h.text h.took)) ∙ h.refused_is
 
-pub told_runs : (sizes : Sizes) (bytes : List ℕ) (sn : Option (List ℕ)) (journal : Journal) (runs : List Run) (refused : Option Refusal)
-    → HasLoaded sizes (Some bytes) sn journal runs refused → runs ≡ load_runs_of sizes bytes
-told_runs sizes bytes sn journal runs refused h = h.runs_are ∙ ap (λ (s : List ℕ). load_runs_of sizes s) (told_text bytes sn h.text h.took)
+pub told_loads : (sizes : Sizes) (budget : ℕ) (bytes : List ℕ) (sn : Option (List ℕ)) (journal : Journal) (runs : List Run) (refused : Option Refusal)
+    → HasLoaded sizes budget (Some bytes) sn journal runs refused → IsLoadOf sizes budget bytes journal runs
+told_loads sizes budget bytes sn journal runs refused h = subst (λ (s : List ℕ). IsLoadOf sizes budget s journal runs) (told_text bytes sn h.text h.took) h.loads
 
-pub told_operators : (sizes : Sizes) (bytes : List ℕ) (sn : Option (List ℕ)) (journal : Journal) (runs : List Run) (refused : Option Refusal)
-    → (h : HasLoaded sizes (Some bytes) sn journal runs refused) → operators_of h.text ≡ operators_of bytes
-told_operators sizes bytes sn journal runs refused h = ap (λ (s : List ℕ). operators_of s) (told_text bytes sn h.text h.took)
+pub told_operators : (sizes : Sizes) (budget : ℕ) (bytes : List ℕ) (sn : Option (List ℕ)) (journal : Journal) (runs : List Run) (refused : Option Refusal)
+    → (h : HasLoaded sizes budget (Some bytes) sn journal runs refused) → operators_of h.text ≡ operators_of bytes
+told_operators sizes budget bytes sn journal runs refused h = ap (λ (s : List ℕ). operators_of s) (told_text bytes sn h.text h.took)
 
 -- ---- the rows
 
@@ -167,7 +167,7 @@ pub refused_row : (sizes : Sizes) (command : Option Command) (so sn : Option (Li
     IfOk p (Prepares sizes command so sn) → final_status p w ≡ 3 → IfSome so (λ text. IsSome (refusal_of text))
 refused_row sizes command None sn p w h e = tt
 refused_row sizes command (Some bytes) sn (Err want) w h e = absurd (omega arith)
-refused_row sizes command (Some bytes) sn (Ok (Refused journal runs ops refusal)) w h e = some_refusal _ refusal (told_refusal sizes bytes sn journal runs (Some refusal) h.1.loaded)
+refused_row sizes command (Some bytes) sn (Ok (Refused journal runs ops refusal)) w h e = some_refusal _ refusal (told_refusal sizes h.asked.steps bytes sn journal runs (Some refusal) h.loaded)
 refused_row sizes command (Some bytes) sn (Ok (Ran journal runs ops)) Wrote h e = absurd (run_is_not_3 runs e)
 refused_row sizes command (Some bytes) sn (Ok p) Wrote h e = absurd (omega arith)
 refused_row sizes command (Some bytes) sn (Ok p) Cut h e = absurd (omega arith)

@@ -9,7 +9,7 @@ use Rattle.wam_machine.specs.declared.run.Run.{Run}
 use Rattle.prolog_session.specs.WholeText.{max_text}
 use Rattle.prolog_session.specs.declared.refusal.Refusal.{Refusal}
 use Rattle.prolog_session.specs.declared.words.Command.{Command}
-use Rattle.prolog_session.specs.Load.{journal_of, load_runs_of, operators_of, refusal_of}
+use Rattle.prolog_session.specs.Load.{IsLoadOf, journal_of, operators_of, refusal_of}
 use Rattle.prolog_session.specs.Runs.{AreRunsBehind}
 use Rattle.prolog_session.specs.Headline.{HasLoaded}
 use Rattle.prolog_session.specs.Prepared.{HasLoadedUnder, HasRunUnder}
@@ -26,32 +26,35 @@ no_refusal (Some r) h = absurd (h r refl)
 abbrev IsTaken : Option (List ℕ) → Option (List ℕ) → List ℕ → Type 0
 IsTaken old new text = (length text ≤ max_text) × Consumes old new text × IsAtEnd new
 
-abbrev loaded : (sizes : Sizes) (old new : Option (List ℕ)) (text bytes : List ℕ) (journal : Journal) (runs : List Run) (refused : Option Refusal)
-    → IsTaken old new text → bytes ≡ text → journal ≡ journal_of sizes bytes → runs ≡ load_runs_of sizes bytes → refused ≡ refusal_of bytes
-    → HasLoaded sizes old new journal runs refused
-loaded sizes old new text bytes journal runs refused h same j r e =
+abbrev loaded : (sizes : Sizes) (budget : ℕ) (old new : Option (List ℕ)) (text bytes : List ℕ) (journal : Journal) (runs : List Run) (refused : Option Refusal)
+    → IsTaken old new text → bytes ≡ text → journal ≡ journal_of sizes bytes → IsLoadOf sizes budget bytes journal runs → refused ≡ refusal_of bytes
+    → HasLoaded sizes budget old new journal runs refused
+loaded sizes budget old new text bytes journal runs refused h same j l e =
     let taken : IsTaken old new bytes = subst (IsTaken old new) (sym same) h in
-    record { text = bytes; took = record { fits = taken.0; took = taken.1; all = taken.2 }; journal_is = j; runs_are = r; refused_is = sym e }
+    record { text = bytes; took = record { fits = taken.0; took = taken.1; all = taken.2 }; journal_is = j; loads = l; refused_is = sym e }
 
 -- a text that is refused
-pub refused_under : (sizes : Sizes) (old new : Option (List ℕ)) (text bytes : List ℕ) (journal : Journal) (runs : List Run) (ops : Table) (found : Option Refusal) (refusal : Refusal)
-    → IsTaken old new text → bytes ≡ text → journal ≡ journal_of sizes bytes → runs ≡ load_runs_of sizes bytes → ops ≡ operators_of bytes
-    → found ≡ refusal_of bytes → found ≡ Some refusal → HasLoadedUnder sizes old new journal runs ops refusal
-refused_under sizes old new text bytes journal runs ops found refusal h same j r o e is =
-    record { loaded = loaded sizes old new text bytes journal runs (Some refusal) h same j r (sym is ∙ e); operators = o }
+pub refused_under : (sizes : Sizes) (command : Option Command) (asked : Command) (old new : Option (List ℕ)) (text bytes : List ℕ) (journal entries : Journal) (runs : List Run) (ops : Table)
+    (found : Option Refusal) (refusal : Refusal) → IsTaken old new text → bytes ≡ text → journal ≡ entries → entries ≡ journal_of sizes bytes
+    → IsLoadOf sizes asked.steps bytes entries runs → ops ≡ operators_of bytes → found ≡ refusal_of bytes → found ≡ Some refusal → command ≡ Some asked
+    → HasLoadedUnder sizes command old new journal runs ops refusal
+refused_under sizes command asked old new text bytes journal entries runs ops found refusal h same j all l o e is asks =
+    let loads : IsLoadOf sizes asked.steps bytes journal runs = subst (λ (J : Journal). IsLoadOf sizes asked.steps bytes J runs) (sym j) l in
+    record { asked = asked; asked_is = asks; loaded = loaded sizes asked.steps old new text bytes journal runs (Some refusal) h same (j ∙ all) loads (sym is ∙ e); operators = o }
 
 -- a text that isn't, and the run of the goal over its journal
 pub ran_under : (sizes : Sizes) (command : Option Command) (asked : Command) (old new : Option (List ℕ)) (text bytes : List ℕ) (journal entries : Journal) (loads runs : List Run) (ops : Table)
-    (found : Option Refusal) → IsTaken old new text → bytes ≡ text → journal ≡ entries → entries ≡ journal_of sizes bytes → loads ≡ load_runs_of sizes bytes
+    (found : Option Refusal) → IsTaken old new text → bytes ≡ text → journal ≡ entries → entries ≡ journal_of sizes bytes → IsLoadOf sizes asked.steps bytes entries loads
     → ops ≡ operators_of bytes → found ≡ refusal_of bytes → found ≡ None → command ≡ Some asked → AreRunsBehind loads asked entries runs
     → HasRunUnder sizes command old new journal runs ops
 ran_under sizes command asked old new text bytes journal entries loads runs ops found h same j all l o e is asks behind =
+    let of_load : IsLoadOf sizes asked.steps bytes journal loads = subst (λ (J : Journal). IsLoadOf sizes asked.steps bytes J loads) (sym j) l in
     record {
       run = record {
         asked = asked;
         asked_is = asks;
         loads = loads;
-        loaded = loaded sizes old new text bytes journal loads None h same (j ∙ all) l (sym is ∙ e);
+        loaded = loaded sizes asked.steps old new text bytes journal loads None h same (j ∙ all) of_load (sym is ∙ e);
         runs_are = subst (λ (J : Journal). AreRunsBehind loads asked J runs) (sym j) behind;
       };
       operators = o;

@@ -1,14 +1,34 @@
 -- What the load does to its base.
-use Rattle.std.specs.Prelude.{◌≡◌, ℕ, Bool, Option, Some, is_some, IfSome}
+use Rattle.std.specs.Prelude.{◌≡◌, ℕ, Bool, List, [], ◌∷◌, Option, Some, None, is_some, IfSome}
 use Rattle.prolog_terms.specs.declared.entry.Clause.{Clause}
 use Rattle.prolog_terms.specs.declared.entry.Indicator.{Indicator}
-use Rattle.journal_base.specs.Journal.{number_of}
+use Rattle.prolog_terms.specs.declared.fault.Fault.{Fault}
+use Rattle.journal_base.specs.Journal.{Journal, number_of}
 use Rattle.journal_base.specs.Plain.{Plain}
 use Rattle.journal_base.specs.declared.sizes.Sizes.{Sizes}
-use Rattle.prolog_session.specs.Load.{Placed, with_procedure, with_clause}
+use Rattle.wam_machine.specs.declared.run.Run.{Run}
+use Rattle.prolog_session.specs.Load.{Placed, Loaded, with_procedure, with_clause, raised, op}
 
 abbrev pub sizes_of : Plain → Sizes
 sizes_of b = record { words = b.words; updates = b.updates }
+
+-- an empty base of these sizes that serves engine 0, but for its entries
+abbrev pub holding : Sizes → Journal → Plain
+holding sizes J = record { number = 0; words = sizes.words; updates = sizes.updates; entries = J; out = 0 }
+
+-- it serves engine 0, and no cursor of it is out
+pub record IsOfLoad (b : Plain) : Type 0 where
+  pub number : b.number ≡ 0
+  pub out : b.out ≡ 0
+
+-- the load so far that a base and its runs stand for
+abbrev pub loaded_in : Plain → List Run → Loaded
+loaded_in b runs = record { journal = b.entries; runs = runs }
+
+-- the run of a directive for operators in this line that raises an error, if it does
+abbrev pub error_runs : ℕ → Option Fault → List Run
+error_runs line None = []
+error_runs line (Some fault) = raised line fault op ∷ []
 
 -- the base holds the journal that was placed, and is otherwise the same
 pub record Holds (old new : Plain) (placed : Placed) (fits : Bool) : Type 0 where

@@ -8,7 +8,7 @@ use Rattle.prolog_session.specs.WholeText.{max_text}
 use Rattle.prolog_session.specs.Sinks.{AppendsPrefix}
 use Rattle.prolog_session.specs.declared.words.Command.{Command}
 use Rattle.prolog_session.specs.declared.refusal.Refusal.{Refusal}
-use Rattle.prolog_session.specs.Load.{journal_of, load_runs_of, operators_of, refusal_of}
+use Rattle.prolog_session.specs.Load.{IsLoadOf, journal_of, operators_of, refusal_of}
 use Rattle.prolog_session.specs.Errors.{bad_words_text, source_text, too_long_text, refusal_text}
 use Rattle.prolog_session.specs.Runs.{AreRunsBehind, status_of}
 use Rattle.prolog_session.specs.Output.{load_text, output_of}
@@ -65,20 +65,27 @@ pub record IsTooLong (old new : Option (List ℕ)) : Type 0 where
   pub long : max_text < length bytes
   pub took : Consumes old new bytes
 
--- The journal and the runs are those of the load of a text that was taken whole, told or not, and so is the refusal.
-pub record HasLoaded (sizes : Sizes) (old new : Option (List ℕ)) (journal : Journal) (runs : List Run) (refused : Option Refusal) : Type 0 where
+-- The journal and the runs are those of a load of a text that was taken whole, told or not, each goal of it within the budget; and so is
+-- the refusal.
+pub record HasLoaded (sizes : Sizes) (budget : ℕ) (old new : Option (List ℕ)) (journal : Journal) (runs : List Run) (refused : Option Refusal) : Type 0 where
   pub text : List ℕ
   pub took : Took old new text
   pub journal_is : journal ≡ journal_of sizes text
-  pub runs_are : runs ≡ load_runs_of sizes text
+  pub loads : IsLoadOf sizes budget text journal runs
   pub refused_is : refusal_of text ≡ refused
+
+-- The runs are those of a load of this text, each goal of it within the command's budget, and then those of the command over its journal.
+pub record AreRunsOf (sizes : Sizes) (text : List ℕ) (command : Command) (journal : Journal) (runs : List Run) : Type 0 where
+  pub loads : List Run
+  pub of_load : IsLoadOf sizes command.steps text journal loads
+  pub behind : AreRunsBehind loads command journal runs
 
 -- A text was loaded whole, and the goal was run: the runs are those of the load, and then those of the command over its journal.
 pub record HasRun (sizes : Sizes) (command : Option Command) (old new : Option (List ℕ)) (journal : Journal) (runs : List Run) : Type 0 where
   pub asked : Command
   pub asked_is : command ≡ Some asked
   pub loads : List Run
-  pub loaded : HasLoaded sizes old new journal loads None
+  pub loaded : HasLoaded sizes asked.steps old new journal loads None
   pub runs_are : AreRunsBehind loads asked journal runs
 
 -- ---- what was written
@@ -89,9 +96,11 @@ pub record Gains (failed : Type 0) (old new : Option (List ℕ)) (bytes : List �
   pub whole : Appends old new bytes ⊎ failed
 
 -- a text that was taken whole was refused, and the sink gained the text of its load so far and of its refusal
-pub record HasRefused (sizes : Sizes) (old new : Option (List ℕ)) (journal : Journal) (runs : List Run) (failed : Type 0) (before after : Option (List ℕ)) : Type 0 where
+pub record HasRefused (sizes : Sizes) (command : Option Command) (old new : Option (List ℕ)) (journal : Journal) (runs : List Run) (failed : Type 0) (before after : Option (List ℕ)) : Type 0 where
+  pub asked : Command
+  pub asked_is : command ≡ Some asked
   pub refusal : Refusal
-  pub loaded : HasLoaded sizes old new journal runs (Some refusal)
+  pub loaded : HasLoaded sizes asked.steps old new journal runs (Some refusal)
   pub gains : Gains failed before after (load_text (operators_of loaded.text) runs ++ refusal_text refusal)
 
 -- A text was loaded whole and the goal was run, and this is so of the text of the runs, under the operators behind the text that was loaded.
@@ -104,7 +113,7 @@ pub data IsToBeWritten (sizes : Sizes) (command : Option Command) (failed : Type
   of_bad_words : IsNone command → IsToBeWritten sizes command failed old new bad_words_text
   of_source : IsSome command → failed → IsToBeWritten sizes command failed old new source_text
   of_too_long : IsSome command → IsTooLong old new → IsToBeWritten sizes command failed old new too_long_text
-  of_refusal : (journal : Journal) (runs : List Run) (refusal : Refusal) → IsSome command → (h : HasLoaded sizes old new journal runs (Some refusal))
+  of_refusal : (asked : Command) (journal : Journal) (runs : List Run) (refusal : Refusal) → command ≡ Some asked → (h : HasLoaded sizes asked.steps old new journal runs (Some refusal))
       → IsToBeWritten sizes command failed old new (load_text (operators_of h.text) runs ++ refusal_text refusal)
   of_runs : (journal : Journal) (runs : List Run) → (h : HasRun sizes command old new journal runs)
       → IsToBeWritten sizes command failed old new (output_of (operators_of h.loaded.text) runs)

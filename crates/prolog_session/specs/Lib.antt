@@ -8,6 +8,7 @@ pub mod StandardMoves
 pub mod Reserved
 pub mod Bases
 pub mod Load
+pub mod Taking
 pub mod Words
 pub mod Runs
 pub mod Errors

@@ -1,11 +1,13 @@
 -- The load of a text (docs/LANGUAGE.md, "Programs").
-use Rattle.std.specs.Prelude.{ℕ, ◌+◌, List, [], ◌∷◌, ◌++◌, length, Bool, true, false, ◌&&◌, ◌||◌, nat_le, nat_lt, Option, Some, None, if◌then◌else◌, codes}
+use Rattle.std.specs.Prelude.{◌≡◌, ℕ, ◌+◌, List, [], ◌∷◌, ◌++◌, map, length, Bool, true, false, ◌&&◌, nat_le, nat_lt, Option, Some, None, if◌then◌else◌, codes}
 use Rattle.prolog_terms.specs.Tree.{Tree}
+use Rattle.prolog_terms.specs.Clauses.{IsClause}
 use Rattle.prolog_terms.specs.Indicators.{indicator_of}
 use Rattle.prolog_terms.specs.Operators.{Table, initial_operators}
-use Rattle.prolog_terms.specs.Faults.{fault_tree}
+use Rattle.prolog_terms.specs.Faults.{fault_tree, indicator_tree}
 use Rattle.prolog_terms.specs.declared.fault.Fault.{Fault}
-use Rattle.prolog_terms.specs.declared.fault.Fault.TheVariants.{Resource}
+use Rattle.prolog_terms.specs.declared.fault.Fault.TheVariants.{Permission, Resource}
+use Rattle.prolog_terms.specs.declared.shown.Shown.{Shown}
 use Rattle.prolog_terms.specs.declared.entry.Entry.{Entry}
 use Rattle.prolog_terms.specs.declared.entry.Clause.{Clause as AClause}
 use Rattle.prolog_terms.specs.declared.entry.Indicator.{Indicator}
@@ -19,62 +21,104 @@ use Rattle.journal_base.specs.declared.sizes.Sizes.{Sizes}
 use Rattle.prolog_clauses.specs.Formed.{clause_of}
 use Rattle.prolog_clauses.specs.declared.clause.Formed.{Formed}
 use Rattle.prolog_clauses.specs.declared.clause.Formed.TheVariants.{Clause as Made, Refused as NoClause}
-use Rattle.prolog_clauses.specs.Declarations.{declaring_of, error_of, table_after, HasPriority}
-use Rattle.prolog_clauses.specs.declared.operators.Declaring.{Declaring}
+use Rattle.prolog_clauses.specs.Declarations.{error_of, table_after, HasPriority}
+use Rattle.prolog_clauses.specs.Directives.{directive_of}
+use Rattle.prolog_clauses.specs.declared.directive.Directive.{Directive}
+use Rattle.prolog_clauses.specs.declared.directive.Directive.TheVariants.{Operators as ForOperators, Nothing as ForNothing, Kept as ForTheEnd, Goal as ToRun}
 use Rattle.prolog_lexer.specs.Streams.{tokens}
-use Rattle.prolog_reader.specs.Texts.{Answer, a_term, nothing, refusal, Sentence, answer_of, sentences}
+use Rattle.prolog_reader.specs.Texts.{Reading, Answer, a_term, nothing, refusal, Sentence, answer_of, sentences}
 use Rattle.wam_machine.specs.declared.run.Run.{Run}
 use Rattle.wam_machine.specs.declared.run.RunEnd.TheVariants.{Ball}
-use Rattle.prolog_session.specs.Reserved.{is_reserved, is_directive, is_grammar_rule}
+use Rattle.prolog_session.specs.Reserved.{is_reserved, is_grammar_rule}
+use Rattle.wam_machine.specs.Runs.{AreShown}
+use Rattle.prolog_session.specs.Runs.{IsRunBy}
 use Rattle.prolog_session.specs.declared.refusal.Refusal.{Refusal}
+use Rattle.prolog_session.specs.declared.kept.TextGoal.{TextGoal}
 use Rattle.prolog_session.specs.declared.part.Part.{Part}
-use Rattle.prolog_session.specs.declared.part.Part.TheVariants.{Clause, Operators, Refused, End}
+use Rattle.prolog_session.specs.declared.part.Part.TheVariants.{Clause, Operators, Goal, Kept, Nothing, Raises}
+use Rattle.prolog_session.specs.declared.part.Next.{Next}
+use Rattle.prolog_session.specs.declared.part.Next.TheVariants.{Taken, Refused, End}
+
+-- ---- what can't be added
+
+-- the call that raises the error where a read-term can't be added
+abbrev pub assertz : Indicator
+assertz = record { name = codes "assertz"; arity = 1 }
+
+-- no text may change the procedure of this name and arity
+abbrev pub no_change : Indicator → Fault
+no_change i = Permission (codes "modify") (codes "static_procedure") (indicator_tree i)
+
+abbrev pub not_added : ℕ → Fault → Part
+not_added line fault = Raises line fault assertz
 
 -- ---- what a read-term is to a load
 
--- no clause
-abbrev pub no_clause : ℕ → Part
-no_clause line = Refused (record { line = line; fault = 7 })
-
--- a clause, unless its head has the name and arity of a control construct or a builtin
+-- a clause, unless its head has the name and arity of a control construct or a builtin (each clause's head has a name)
 abbrev pub part_of_clause : ℕ → AClause → Option Indicator → Part
-part_of_clause line c None = no_clause line
-part_of_clause line c (Some i) = if is_reserved i then no_clause line else Clause line i c
+part_of_clause line c None = Nothing
+part_of_clause line c (Some i) = if is_reserved i then not_added line (no_change i) else Clause line i c
 
--- a clause, or a term that is none
+-- a clause, or a term that is none, with its error
 abbrev pub part_of_formed : ℕ → Formed → Part
 part_of_formed line (Made c) = part_of_clause line c (indicator_of c.head)
-part_of_formed line (NoClause why) = no_clause line
+part_of_formed line (NoClause fault) = not_added line fault
 
--- a directive and a grammar rule are no clauses
-abbrev pub part_of_named : ℕ → Tree → Option Indicator → Part
-part_of_named line t None = no_clause line
-part_of_named line t (Some i) = if is_directive i || is_grammar_rule i then no_clause line else part_of_formed line (clause_of t)
+-- a grammar rule can't be added either
+abbrev pub part_of_term : ℕ → Tree → Option Indicator → Part
+part_of_term line t None = part_of_formed line (clause_of t)
+part_of_term line t (Some i) = if is_grammar_rule i then not_added line (no_change i) else part_of_formed line (clause_of t)
 
--- the directive `:- op(P, T, N)`, or another term
-abbrev pub part_of_directive : ℕ → Tree → Option Declaring → Part
-part_of_directive line t (Some d) = Operators line d
-part_of_directive line t None = part_of_named line t (indicator_of t)
+-- a goal of the text, whose shown variables are those of the directive
+abbrev pub asked : ℕ → List Shown → Tree → TextGoal
+asked line shown t = record { line = line; goal = record { term = t; shown = shown } }
 
-abbrev pub part_of_term : ℕ → Tree → Part
-part_of_term line t = part_of_directive line t (declaring_of t)
+abbrev pub part_of_directive : ℕ → List Shown → Directive → Part
+part_of_directive line shown (ForOperators d) = Operators line d
+part_of_directive line shown ForNothing = Nothing
+part_of_directive line shown (ForTheEnd g) = Kept (asked line shown g)
+part_of_directive line shown (ToRun g) = Goal (asked line shown g)
 
-abbrev pub part_of : Answer → Part
-part_of (a_term line r) = part_of_term line r.term
-part_of (refusal line fault) = Refused (record { line = line; fault = fault })
-part_of nothing = End
+-- a directive, or another term
+abbrev pub part_with : ℕ → Reading → Option Directive → Part
+part_with line r None = part_of_term line r.term (indicator_of r.term)
+part_with line r (Some d) = part_of_directive line r.shown d
 
--- the priority of a directive is one that an operator may have, or 0
-abbrev pub IsWithinPart : Part → Type 0
-IsWithinPart (Operators line d) = HasPriority d
-IsWithinPart part = Unit {0}
+abbrev pub part_of : ℕ → Reading → Part
+part_of line r = part_with line r (directive_of r.term)
+
+abbrev pub next_of : Answer → Next
+next_of (a_term line r) = Taken (part_of line r)
+next_of (refusal line fault) = Refused (record { line = line; fault = fault })
+next_of nothing = End
+
+-- a clause, of this name and arity
+pub record IsClauseOf (i : Indicator) (c : AClause) : Type 0 where
+  pub named : indicator_of c.head ≡ Some i
+  pub clause : IsClause c
+
+-- What a load needs of a read-term: a clause is one, the priority of a directive is one that an operator may have, or 0, and each shown
+-- variable of a goal stands in it.
+abbrev pub IsReadyPart : Part → Type 0
+IsReadyPart (Clause line i c) = IsClauseOf i c
+IsReadyPart (Operators line d) = HasPriority d
+IsReadyPart (Goal g) = AreShown g.goal
+IsReadyPart (Kept g) = AreShown g.goal
+IsReadyPart Nothing = Unit {0}
+IsReadyPart (Raises line fault at) = Unit {0}
+
+abbrev pub IsReadyNext : Next → Type 0
+IsReadyNext (Taken part) = IsReadyPart part
+IsReadyNext (Refused r) = Unit {0}
+IsReadyNext End = Unit {0}
 
 -- ---- the read-terms of a text
 
--- what a read-term has a load do: add a clause, or give a run that ends in an error
+-- what a read-term has a load do: add a clause, give a run that ends in an error, or run a goal
 pub data Item : Type 0 where
   a_clause : (line : ℕ) (indicator : Indicator) (clause : AClause) → Item
   an_error : (line : ℕ) (fault : Fault) (at : Indicator) → Item
+  a_goal : (goal : TextGoal) → Item
 
 -- what the read-terms of a text have a load do, the operators that there are behind them, and the read-term at which the load ends, if
 -- one is refused
@@ -86,31 +130,60 @@ pub record ReadText : Type 0 where
 abbrev pub op : Indicator
 op = record { name = codes "op"; arity = 3 }
 
-abbrev pub with_error : ℕ → Option Fault → List Item → List Item
-with_error line None items = items
-with_error line (Some fault) items = an_error line fault op ∷ items
+abbrev pub error_items : ℕ → Option Fault → List Item
+error_items line None = []
+error_items line (Some fault) = an_error line fault op ∷ []
+
+-- what a read-term has a load do at its place, under these operators
+abbrev pub items_of : Part → Table → List Item
+items_of (Clause line i c) ops = a_clause line i c ∷ []
+items_of (Operators line d) ops = error_items line (error_of ops d)
+items_of (Goal g) ops = a_goal g ∷ []
+items_of (Kept g) ops = []
+items_of Nothing ops = []
+items_of (Raises line fault at) ops = an_error line fault at ∷ []
 
 -- the operators behind a read-term
 abbrev pub operators_after : Part → Table → Table
 operators_after (Clause line i c) ops = ops
 operators_after (Operators line d) ops = table_after ops d
-operators_after (Refused r) ops = ops
-operators_after End ops = ops
+operators_after (Goal g) ops = ops
+operators_after (Kept g) ops = ops
+operators_after Nothing ops = ops
+operators_after (Raises line fault at) ops = ops
 
--- a read-term under these operators, and what comes behind it
-abbrev pub before : Part → Table → ReadText → ReadText
-before (Clause line i c) ops later = record later { items = a_clause line i c ∷ later.items }
-before (Operators line d) ops later = record later { items = with_error line (error_of ops d) later.items }
-before (Refused r) ops later = record { items = []; operators = ops; refused = Some r }
-before End ops later = record { items = []; operators = ops; refused = None }
+-- the goals that are kept for the end of the text
+abbrev pub kept_after : Part → List TextGoal → List TextGoal
+kept_after (Clause line i c) kept = kept
+kept_after (Operators line d) kept = kept
+kept_after (Goal g) kept = kept
+kept_after (Kept g) kept = kept ++ g ∷ []
+kept_after Nothing kept = kept
+kept_after (Raises line fault at) kept = kept
+
+abbrev pub goals : List TextGoal → List Item
+goals kept = map a_goal kept
+
+abbrev pub ended : List Item → Table → Option Refusal → ReadText
+ended items ops refused = record { items = items; operators = ops; refused = refused }
+
+abbrev pub with_items : List Item → ReadText → ReadText
+with_items items later = record later { items = items ++ later.items }
+
+-- A read-term, under these operators and with these goals kept, and what comes behind it. At the end of the text the goals that were
+-- kept are run; where a read-term is refused none of them is.
+abbrev pub before : Next → Table → List TextGoal → (Part → ReadText) → ReadText
+before (Taken part) ops kept later = with_items (items_of part ops) (later part)
+before (Refused r) ops kept later = ended [] ops (Some r)
+before End ops kept later = ended (goals kept) ops None
 
 -- Each read-term is read under the operators that there are behind those before it.
-abbrev pub text_under : Table → List Sentence → ReadText
-text_under ops [] = record { items = []; operators = ops; refused = None }
-text_under ops (x ∷ xs) = before (part_of (answer_of ops x)) ops (text_under (operators_after (part_of (answer_of ops x)) ops) xs)
+abbrev pub text_under : Table → List TextGoal → List Sentence → ReadText
+text_under ops kept [] = ended (goals kept) ops None
+text_under ops kept (x ∷ xs) = before (next_of (answer_of ops x)) ops kept (λ part. text_under (operators_after part ops) (kept_after part kept) xs)
 
 unfoldable pub text_of : List ℕ → ReadText
-text_of text = text_under initial_operators (sentences (tokens text))
+text_of text = text_under initial_operators [] (sentences (tokens text))
 
 -- the operators behind a text, or at the read-term at which its load ends
 abbrev pub operators_of : List ℕ → Table
@@ -165,10 +238,6 @@ with_clause sizes J i c = placed_behind sizes (with_procedure sizes J i) (Add Ba
 
 -- ---- the load
 
--- the call that raises the error where a clause has no room
-abbrev pub assertz : Indicator
-assertz = record { name = codes "assertz"; arity = 1 }
-
 -- the run of a read-term in this line that raises an error
 unfoldable pub raised : ℕ → Fault → Indicator → Run
 raised line fault at = record {
@@ -201,34 +270,37 @@ after_placing line s p = record { journal = p.journal; runs = s.runs ++ run_unle
 abbrev pub after_clause : Sizes → ℕ → Indicator → AClause → Loaded → Loaded
 after_clause sizes line i c s = after_placing line s (with_clause sizes s.journal i c)
 
--- the run of a directive in this line that raises an error, if it does
-abbrev pub error_runs : ℕ → Option Fault → List Run
-error_runs line None = []
-error_runs line (Some fault) = raised line fault op ∷ []
-
 abbrev pub after_error : ℕ → Fault → Indicator → Loaded → Loaded
 after_error line fault at s = record s { runs = s.runs ++ raised line fault at ∷ [] }
 
-abbrev pub after_item : Sizes → Item → Loaded → Loaded
-after_item sizes (a_clause line i c) s = after_clause sizes line i c s
-after_item sizes (an_error line fault at) s = after_error line fault at s
+-- a run of a goal adds nothing to the journal: no goal of the language changes it
+abbrev pub with_run : Loaded → Run → Loaded
+with_run s run = record s { runs = s.runs ++ run ∷ [] }
 
--- these, one after the other
-abbrev pub load : Sizes → Loaded → List Item → Loaded
-load sizes s [] = s
-load sizes s (x ∷ xs) = load sizes (after_item sizes x s) xs
+-- These items, one after the other, lead from the one load so far to the other. A goal is run by engine 0 over the journal at its place,
+-- within the budget; a run may be made in more than one way, since its looks may.
+abbrev pub Loads : Sizes → ℕ → Loaded → List Item → Loaded → Type 0
+Loads sizes budget s [] t = t ≡ s
+Loads sizes budget s (a_clause line i c ∷ rest) t = Loads sizes budget (after_clause sizes line i c s) rest t
+Loads sizes budget s (an_error line fault at ∷ rest) t = Loads sizes budget (after_error line fault at s) rest t
+Loads sizes budget s (a_goal g ∷ rest) t = (run : Run) × (IsRunBy 0 g.line g.goal s.journal budget run × Loads sizes budget (with_run s run) rest t)
 
 abbrev pub unloaded : Loaded
 unloaded = record { journal = []; runs = [] }
 
--- a load of this text into an empty base of these sizes
-unfoldable pub load_of : Sizes → List ℕ → Loaded
-load_of sizes text = load sizes unloaded (text_of text).items
+-- This journal and these runs are those of a load of the text into an empty base of these sizes. The runs are by engine 0, in order:
+-- one for each clause that had no room, each read-term that can't be added, each directive for operators that raised an error, and each
+-- goal.
+abbrev pub IsLoadOf : Sizes → ℕ → List ℕ → Journal → List Run → Type 0
+IsLoadOf sizes budget text journal runs = Loads sizes budget unloaded (text_of text).items (record { journal = journal; runs = runs })
 
--- its journal
+-- The journal behind these items. It is determined whatever the runs are, since no goal of the language changes it: the clauses alone do.
+abbrev pub journal_after : Sizes → Journal → List Item → Journal
+journal_after sizes J [] = J
+journal_after sizes J (a_clause line i c ∷ rest) = journal_after sizes (with_clause sizes J i c).journal rest
+journal_after sizes J (an_error line fault at ∷ rest) = journal_after sizes J rest
+journal_after sizes J (a_goal g ∷ rest) = journal_after sizes J rest
+
+-- the journal of each load of this text into an empty base of these sizes
 abbrev pub journal_of : Sizes → List ℕ → Journal
-journal_of sizes text = (load_of sizes text).journal
-
--- its runs, by engine 0, in order: one for each clause that had no room and for each directive that raised an error
-abbrev pub load_runs_of : Sizes → List ℕ → List Run
-load_runs_of sizes text = (load_of sizes text).runs
+journal_of sizes text = journal_after sizes [] (text_of text).items

@@ -1,6 +1,6 @@
 -- The text of the runs, under an operator table.
 use Rattle.std.specs.Prelude.{ℕ, ◌+◌, List, [], ◌∷◌, ◌++◌, Bool, true, false, not, ◌==◌, filter, codes, if◌then◌else◌}
-use Rattle.std.specs.List.{flat_map}
+use Rattle.std.specs.List.{flat_map, list_any}
 use Rattle.std.specs.Fmt.{decimal}
 use Rattle.prolog_terms.specs.Tree.{Tree, compound, none, more}
 use Rattle.prolog_terms.specs.Operators.{Table}
@@ -81,9 +81,20 @@ is_of_load run = run.engine == 0
 abbrev pub is_of_goal : Run → Bool
 is_of_goal run = not (is_of_load run)
 
--- the text of a run of the load: the line of its read-term, and its end
+abbrev pub is_answer : Event → Bool
+is_answer (Answer values left) = true
+
+-- whether a run had an answer and no alternative is left
+abbrev pub has_answered : List Event → RunEnd → Bool
+has_answered events Exhausted = list_any is_answer events
+has_answered events (Ball term) = false
+has_answered events (Spent n) = false
+has_answered events Want = false
+
+-- The text of a run of the load: nothing where it had an answer and is exhausted, else the line of its read-term and its end.
 unfoldable pub load_run_text : Table → Run → List ℕ
-load_run_text ops run = codes "% line " ++ decimal run.line ++ codes ": " ++ end_text ops run.transcript run.end
+load_run_text ops run =
+    if has_answered run.transcript run.end then [] else codes "% line " ++ decimal run.line ++ codes ": " ++ end_text ops run.transcript run.end
 
 -- the text of the load, whose runs are those by engine 0 among these
 unfoldable pub load_text : Table → List Run → List ℕ

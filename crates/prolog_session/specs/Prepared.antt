@@ -16,8 +16,10 @@ use Rattle.prolog_session.specs.Output.{load_text, output_of}
 use Rattle.prolog_session.specs.Headline.{IsTooLong, HasLoaded, HasRun}
 
 -- a text was refused, and these are the operators there
-pub record HasLoadedUnder (sizes : Sizes) (old new : Option (List ℕ)) (journal : Journal) (runs : List Run) (ops : Table) (refusal : Refusal) : Type 0 where
-  pub loaded : HasLoaded sizes old new journal runs (Some refusal)
+pub record HasLoadedUnder (sizes : Sizes) (command : Option Command) (old new : Option (List ℕ)) (journal : Journal) (runs : List Run) (ops : Table) (refusal : Refusal) : Type 0 where
+  pub asked : Command
+  pub asked_is : command ≡ Some asked
+  pub loaded : HasLoaded sizes asked.steps old new journal runs (Some refusal)
   pub operators : ops ≡ operators_of loaded.text
 
 -- the goal has run, and these are the operators behind the text
@@ -29,7 +31,7 @@ abbrev pub Prepares : Sizes → Option Command → Option (List ℕ) → Option 
 Prepares sizes command old new BadWords = IsNone command × Keeps old new
 Prepares sizes command old new SourceFailed = IsSome command
 Prepares sizes command old new TooLong = IsSome command × IsTooLong old new
-Prepares sizes command old new (Refused journal runs ops refusal) = IsSome command × HasLoadedUnder sizes old new journal runs ops refusal
+Prepares sizes command old new (Refused journal runs ops refusal) = HasLoadedUnder sizes command old new journal runs ops refusal
 Prepares sizes command old new (Ran journal runs ops) = HasRunUnder sizes command old new journal runs ops
 
 abbrev pub status_before : Prepared → ℕ

@@ -53,16 +53,9 @@ is_in rows i = list_any (λ row. list_any (λ name. same_indicator i (named row.
 
 -- ---- terms that are no clauses
 
--- a directive or a query of a text, which is no goal either
-unfoldable pub directives : List Row
-directives = (1, codes ":-" ∷ codes "?-" ∷ []) ∷ []
-
 -- a grammar rule
 unfoldable pub grammar_rules : List Row
 grammar_rules = (2, codes "-->" ∷ []) ∷ []
-
-abbrev pub is_directive : Indicator → Bool
-is_directive i = is_in directives i
 
 abbrev pub is_grammar_rule : Indicator → Bool
 is_grammar_rule i = is_in grammar_rules i

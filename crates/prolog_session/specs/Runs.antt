@@ -10,17 +10,21 @@ use Rattle.wam_machine.specs.declared.run.RunEnd.{RunEnd}
 use Rattle.wam_machine.specs.declared.run.RunEnd.TheVariants.{Exhausted, Ball, Spent, Want}
 use Rattle.prolog_session.specs.declared.words.Command.{Command}
 
--- These are one run, of the goal over the journal by engine 1 within the budget, for which memory sufficed. Each of its looks is a
--- scan, since the base has no indexes.
-pub record IsOneRun (goal : Goal) (J : Journal) (budget : ℕ) (runs : List Run) : Type 0 where
-  pub run : Run
-  pub only : runs ≡ run ∷ []
-  pub engine : run.engine ≡ 1
-  pub line : run.line ≡ 0
+-- A run of the goal over the journal by this engine within the budget, with this line, for which memory sufficed. Each of its looks is
+-- a scan, since the base has no indexes.
+pub record IsRunBy (engine line : ℕ) (goal : Goal) (J : Journal) (budget : ℕ) (run : Run) : Type 0 where
+  pub engine_is : run.engine ≡ engine
+  pub line_is : run.line ≡ line
   pub shown : run.shown ≡ goal.shown
   pub within : run.steps ≤ budget
   pub ended : run.end ≢ Want
-  pub transcribed : IsTranscribed (record { engine = 1; journal = J; start = length J; budget = budget; shown = shown_list goal.shown }) (0 ∷ []) goal.term run
+  pub transcribed : IsTranscribed (record { engine = engine; journal = J; start = length J; budget = budget; shown = shown_list goal.shown }) (0 ∷ []) goal.term run
+
+-- these are one run, of a goal of the command line by engine 1
+pub record IsOneRun (goal : Goal) (J : Journal) (budget : ℕ) (runs : List Run) : Type 0 where
+  pub run : Run
+  pub only : runs ≡ run ∷ []
+  pub by : IsRunBy 1 0 goal J budget run
 
 -- the runs of a command over a journal: that of its goal within its budget, if it has one
 abbrev pub AreRunsWithin : ℕ → Option Goal → Journal → List Run → Type 0

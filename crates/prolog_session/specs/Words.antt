@@ -1,16 +1,12 @@
 -- The words of the command line.
-use Rattle.std.specs.Prelude.{ℕ, ◌+◌, ◌-◌, ◌*◌, ◌≤◌, Bool, false, drop, List, [], ◌∷◌, ◌++◌, Option, Some, None, IsTrue, IfSome, not, ◌&&◌, ◌||◌, nat_le, codes, if◌then◌else◌}
+use Rattle.std.specs.Prelude.{ℕ, ◌+◌, ◌-◌, ◌*◌, ◌≤◌, Bool, false, drop, List, [], ◌∷◌, ◌++◌, Option, Some, None, IfSome, ◌&&◌, nat_le, codes, if◌then◌else◌}
 use Rattle.std.specs.List.{list_all}
-use Rattle.prolog_terms.specs.Tree.{Tree}
-use Rattle.prolog_terms.specs.Clauses.{is_named, is_body}
-use Rattle.prolog_terms.specs.Indicators.{indicator_of}
+use Rattle.prolog_terms.specs.Clauses.{is_named}
 use Rattle.prolog_terms.specs.Operators.{initial_operators}
-use Rattle.prolog_terms.specs.declared.entry.Indicator.{Indicator}
 use Rattle.prolog_lexer.specs.Streams.{tokens}
 use Rattle.prolog_reader.specs.Texts.{Reading, Program, program}
 use Rattle.wam_machine.specs.declared.run.Goal.{Goal}
 use Rattle.wam_machine.specs.Runs.{AreShown}
-use Rattle.prolog_session.specs.Reserved.{is_directive}
 use Rattle.prolog_session.specs.declared.words.Command.{Command}
 
 -- ---- the budget of steps
@@ -54,15 +50,10 @@ abbrev pub or_else : Option Reading → Option Reading → Option Reading
 or_else (Some r) other = Some r
 or_else None other = other
 
--- A term that can be run, with its variables that are shown. A directive can't, nor can a variable or an integer, nor a term in
--- which one stands as a goal.
-abbrev pub goal_named : Option Indicator → Reading → Option Goal
-goal_named None r = None
-goal_named (Some i) r = if is_directive i || not (is_body r.term) then None else Some (record { term = r.term; shown = r.shown })
-
+-- A term as a goal, with its variables that are shown. Any term can be run.
 abbrev pub goal_in : Option Reading → Option Goal
 goal_in None = None
-goal_in (Some r) = goal_named (indicator_of r.term) r
+goal_in (Some r) = Some (record { term = r.term; shown = r.shown })
 
 -- the goal of a word: its one read-term, or that of the word and a stop on a new line
 unfoldable pub goal_of : List ℕ → Option Goal
@@ -99,13 +90,8 @@ command_of words = if begins_steps words then behind_steps (drop 1 words) else w
 
 -- ---- what the machine asks of a command
 
--- the goal can be a body, and each of its shown variables stands in it
-pub record CanRun (goal : Goal) : Type 0 where
-  pub body : IsTrue (is_body goal.term)
-  pub shown : AreShown goal
-
--- the budget is one that a run may have, and so is the goal, if there is one
+-- the budget is one that a run may have, and each shown variable of the goal, if there is one, stands in it
 pub record IsReady (command : Command) : Type 0 where
   pub least : 1 ≤ command.steps
   pub most : command.steps ≤ max_steps
-  pub goal : IfSome command.goal CanRun
+  pub goal : IfSome command.goal AreShown

@@ -5,6 +5,8 @@
 #![tactic(auto)]
 
 mod finish;
+mod goal_run;
+mod kept;
 mod load;
 mod memory;
 mod part;

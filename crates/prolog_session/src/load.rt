@@ -1,17 +1,23 @@
 // The load of a text.
-ghost use Rattle.std.specs.Prelude.{◌≡◌, ◌++◌, Some, IfOk, OnOk};
+ghost use Rattle.std.specs.Prelude.{◌≡◌, ◌≤◌, ◌++◌, [], ◌∷◌, None, Some, All, IfOk, OnOk};
 ghost use Rattle.prolog_terms.specs.Clauses.{IsClause};
 ghost use Rattle.prolog_terms.specs.Indicators.{indicator_of};
+ghost use Rattle.prolog_terms.specs.Operators.{initial_operators};
 ghost use Rattle.prolog_clauses.specs.Declarations.{error_of, table_after, HasPriority};
 ghost use Rattle.journal_base.specs.View.{AreSizes};
+ghost use Rattle.wam_machine.specs.Runs.{AreShown};
+ghost use Rattle.prolog_session.specs.Words.{max_steps};
 ghost use Rattle.prolog_session.specs.Load as the_load;
-ghost use Rattle.prolog_session.specs.Load.{journal_of, load_runs_of, operators_of, refusal_of};
-ghost use Rattle.prolog_session.specs.Bases.{HasProcedure, HasClause};
+ghost use Rattle.prolog_session.specs.Load.{a_goal, goals, Loads, IsReadyPart, IsLoadOf, journal_of, operators_of, refusal_of};
+ghost use Rattle.prolog_session.specs.Bases.{error_runs, sizes_of, holding, loaded_in, IsOfLoad, HasProcedure, HasClause};
+ghost use Rattle.prolog_session.specs.Taking.{Takes};
 
 use crate::Runs;
-use crate::part::{Part, next_part};
+use crate::goal_run::run_goal;
+use crate::kept::{Kept, TextGoal};
+use crate::part::{Next, Part, next_part};
 use crate::refusal::Refusal;
-use journal_base::{Added, Base, Declared, PlainBase, Sizes, Tally};
+use journal_base::{Added, Base, Declared, Gate, PlainBase, Sizes, Tally};
 use prolog_clauses::{Declaring, declare};
 use prolog_lexer::Lexer;
 use prolog_terms::{
@@ -32,6 +38,15 @@ pub struct Load {
     pub ops: Ops,
     pub runs: Runs,
     pub refused: Option<Refusal>,
+}
+
+/// A load so far: the base that holds its journal, the operators there, its runs, and the goals that are kept for the end.
+#[derive(Drop)]
+struct Loading {
+    base: PlainBase,
+    ops: Ops,
+    runs: Runs,
+    kept: Kept,
 }
 
 /// The number of a procedure, which is declared if it isn't yet; none where there is no room for that.
@@ -119,7 +134,7 @@ fn add_run(alloc: Global, runs: &mut Runs, fits: bool, line: u64) -> Result<(), 
 
 /// Adds a run of a directive for operators in this line, if there is an error.
 fn add_error(alloc: Global, runs: &mut Runs, fault: Option<Fault>, line: u64) -> Result<(), Want>
-    ensures { OnOk result (runs.new ≡ runs.old ++ the_load.error_runs line fault) }
+    ensures { OnOk result (runs.new ≡ runs.old ++ error_runs line fault) }
 {
     let fault = match fault {
         Some(fault) => fault,
@@ -142,51 +157,191 @@ fn add_operators(
 ) -> Result<(), Want>
     requires { HasPriority declaring }
     ensures table { OnOk result (ops.new ≡ table_after ops.old declaring) }
-    ensures runs { OnOk result (runs.new ≡ runs.old ++ the_load.error_runs line (error_of ops.old declaring)) }
+    ensures runs { OnOk result (runs.new ≡ runs.old ++ error_runs line (error_of ops.old declaring)) }
 {
     let fault = declare(alloc, ops, declaring)?;
     add_error(alloc, runs, fault, line)
 }
 
-/// Adds the clauses of a text, to a base of these sizes, and declares its operators, up to the first read-term that is
-/// refused. A clause for which there is no room, and a directive that raises an error, have a run each, and the load goes on.
-#[tactic(auto, unfolding(crate::specs::Load::load_of, crate::specs::Load::text_of))]
-pub fn load_text<R: Wait>(rt: &R, alloc: Global, sizes: Sizes, text: &[u8]) -> Result<Load, Want>
-    requires sizes { AreSizes sizes.words sizes.updates }
-    ensures base { IfOk result (λ load. load.base ≡ record { number = 0; words = sizes.words; updates = sizes.updates; entries = journal_of sizes text.now; out = 0 }) }
-    ensures runs { IfOk result (λ load. load.runs ≡ load_runs_of sizes text.now) }
-    ensures operators { IfOk result (λ load. load.ops ≡ operators_of text.now) }
-    ensures refused { IfOk result (λ load. load.refused ≡ refusal_of text.now) }
+/// Runs a goal of the text over what is loaded, and adds its run.
+fn run_in_load<R: Wait, G: Gate>(
+    rt: &R,
+    alloc: Global,
+    gate: &G,
+    steps: u64,
+    base: PlainBase,
+    ops: &Ops,
+    runs: &mut Runs,
+    goal: &TextGoal,
+) -> Result<PlainBase, Want>
+    requires steps { (1 ≤ steps) × (steps ≤ max_steps) }
+    requires goal { AreShown goal.now.goal }
+    requires base { IsOfLoad base }
+    ensures base { IfOk result (λ after. after ≡ base) }
+    ensures run { OnOk result (Loads (sizes_of base) steps (loaded_in base runs.old) (a_goal goal.now ∷ []) (loaded_in base runs.new)) }
 {
-    let mut lexer = Lexer::new(text);
-    let mut base = PlainBase::new(alloc, LOADER, sizes)?;
-    let mut ops = Ops::initial(alloc)?;
-    let mut runs = Runs::new(alloc);
-    'parts: loop {
-        match next_part(alloc, &mut lexer, &ops)? {
-            Part::Clause(line, indicator, clause) => {
-                let fits = add_clause(rt, &mut base, &indicator, &clause)?;
-                add_run(alloc, &mut runs, fits, line)?;
-            }
-            Part::Operators(line, declaring) => {
-                add_operators(alloc, &mut ops, &mut runs, line, declaring)?;
-            }
-            Part::Refused(refusal) => return Ok(loaded(base, ops, runs, Some(refusal))),
-            Part::End => return Ok(loaded(base, ops, runs, None)),
+    let ran = run_goal(rt, alloc, gate, steps, base, ops, goal.line, &goal.goal)?;
+    runs.push(ran.run)?;
+    Ok(ran.base)
+}
+
+/// The same for a directive, in a load so far.
+fn run_directive<R: Wait, G: Gate>(
+    rt: &R,
+    alloc: Global,
+    gate: &G,
+    steps: u64,
+    load: Loading,
+    goal: &TextGoal,
+) -> Result<Loading, Want>
+    requires steps { (1 ≤ steps) × (steps ≤ max_steps) }
+    requires goal { AreShown goal.now.goal }
+    requires base { IsOfLoad load.base }
+    ensures { IfOk result (λ after. Takes steps load after (Part.Goal goal.now)) }
+{
+    let Loading {
+        base,
+        ops,
+        mut runs,
+        kept,
+    } = load;
+    let base = run_in_load(rt, alloc, gate, steps, base, &ops, &mut runs, goal)?;
+    Ok(Loading {
+        base,
+        ops,
+        runs,
+        kept,
+    })
+}
+
+/// Does what a read-term has a load do.
+fn add_part<R: Wait, G: Gate>(
+    rt: &R,
+    alloc: Global,
+    gate: &G,
+    steps: u64,
+    load: Loading,
+    part: Part,
+) -> Result<Loading, Want>
+    requires steps { (1 ≤ steps) × (steps ≤ max_steps) }
+    requires part { IsReadyPart part }
+    requires base { IsOfLoad load.base }
+    ensures { IfOk result (λ after. Takes steps load after part) }
+{
+    let mut load = load;
+    match part {
+        Part::Clause(line, indicator, clause) => {
+            let fits = add_clause(rt, &mut load.base, &indicator, &clause)?;
+            add_run(alloc, &mut load.runs, fits, line)?;
+            Ok(load)
+        }
+        Part::Operators(line, declaring) => {
+            add_operators(alloc, &mut load.ops, &mut load.runs, line, declaring)?;
+            Ok(load)
+        }
+        Part::Goal(goal) => run_directive(rt, alloc, gate, steps, load, &goal),
+        Part::Kept(goal) => {
+            load.kept.push(goal)?;
+            Ok(load)
+        }
+        Part::Nothing => Ok(load),
+        Part::Raises(line, fault, at) => {
+            load.runs.push(raised(alloc, line, &fault, &at)?)?;
+            Ok(load)
         }
     }
 }
 
-fn loaded(base: PlainBase, ops: Ops, runs: Runs, refused: Option<Refusal>) -> Load
-    ensures base { result.base ≡ base }
-    ensures operators { result.ops ≡ ops }
-    ensures runs { result.runs ≡ runs }
-    ensures refused { result.refused ≡ refused }
+/// Runs the goals that were kept, at the end of the text.
+fn run_kept<R: Wait, G: Gate>(
+    rt: &R,
+    alloc: Global,
+    gate: &G,
+    steps: u64,
+    load: Loading,
+) -> Result<Load, Want>
+    requires steps { (1 ≤ steps) × (steps ≤ max_steps) }
+    requires goals { All (λ goal. AreShown goal.goal) load.kept }
+    requires base { IsOfLoad load.base }
+    ensures base { IfOk result (λ after. after.base ≡ load.base) }
+    ensures runs { IfOk result (λ after. Loads (sizes_of load.base) steps (loaded_in load.base load.runs) (goals load.kept) (loaded_in after.base after.runs)) }
+    ensures operators { IfOk result (λ after. after.ops ≡ load.ops) }
+    ensures refused { IfOk result (λ after. after.refused ≡ None) }
 {
-    Load {
+    let Loading {
+        mut base,
+        ops,
+        mut runs,
+        kept,
+    } = load;
+    for goal in kept.items() {
+        base = run_in_load(rt, alloc, gate, steps, base, &ops, &mut runs, goal)?;
+    }
+    Ok(Load {
         base,
         ops,
         runs,
-        refused,
+        refused: None,
+    })
+}
+
+/// The end of a load at a read-term that is refused. No goal that was kept is run.
+fn ended(load: Loading, refusal: Refusal) -> Load
+    ensures base { result.base ≡ load.base }
+    ensures operators { result.ops ≡ load.ops }
+    ensures runs { result.runs ≡ load.runs }
+    ensures refused { result.refused ≡ Some refusal }
+{
+    Load {
+        base: load.base,
+        ops: load.ops,
+        runs: load.runs,
+        refused: Some(refusal),
+    }
+}
+
+/// A load of nothing yet, into a base of these sizes.
+fn begun(alloc: Global, sizes: Sizes) -> Result<Loading, Want>
+    requires { AreSizes sizes.words sizes.updates }
+    ensures base { IfOk result (λ load. load.base ≡ holding sizes []) }
+    ensures operators { IfOk result (λ load. load.ops ≡ initial_operators) }
+    ensures runs { IfOk result (λ load. load.runs ≡ []) }
+    ensures kept { IfOk result (λ load. load.kept ≡ []) }
+{
+    Ok(Loading {
+        base: PlainBase::new(alloc, LOADER, sizes)?,
+        ops: Ops::initial(alloc)?,
+        runs: Runs::new(alloc),
+        kept: Kept::new(alloc),
+    })
+}
+
+/// Loads a text into a base of these sizes, up to the first read-term that is refused: adds its clauses, declares its operators
+/// and runs its goals, of so many steps at most each; those that are kept come last, where no read-term is refused. What has no
+/// room, can't be added or raises an error has a run of its own, and the load goes on.
+#[tactic(auto, unfolding(crate::specs::Load::text_of))]
+pub fn load_text<R: Wait, G: Gate>(
+    rt: &R,
+    alloc: Global,
+    gate: &G,
+    steps: u64,
+    sizes: Sizes,
+    text: &[u8],
+) -> Result<Load, Want>
+    requires sizes { AreSizes sizes.words sizes.updates }
+    requires steps { (1 ≤ steps) × (steps ≤ max_steps) }
+    ensures base { IfOk result (λ load. load.base ≡ holding sizes (journal_of sizes text.now)) }
+    ensures runs { IfOk result (λ load. IsLoadOf sizes steps text.now load.base.entries load.runs) }
+    ensures operators { IfOk result (λ load. load.ops ≡ operators_of text.now) }
+    ensures refused { IfOk result (λ load. load.refused ≡ refusal_of text.now) }
+{
+    let mut lexer = Lexer::new(text);
+    let mut load = begun(alloc, sizes)?;
+    'parts: loop {
+        match next_part(alloc, &mut lexer, &load.ops)? {
+            Next::Taken(part) => load = add_part(rt, alloc, gate, steps, load, part)?,
+            Next::Refused(refusal) => return Ok(ended(load, refusal)),
+            Next::End => return Ok(run_kept(rt, alloc, gate, steps, load)?),
+        }
     }
 }

@@ -1,18 +1,25 @@
 // The read-terms of a text, as a load takes them.
-ghost use Rattle.std.specs.Prelude.{◌≡◌, ◌<◌, IfOk};
+ghost use Rattle.std.specs.Prelude.{◌≡◌, ◌++◌, ◌∷◌, [], codes, Some, IfOk, OnOk};
+ghost use Rattle.prolog_terms.specs.Flat.{nodes as nodes_of};
+ghost use Rattle.prolog_terms.specs.declared.node.Node.TheVariants.{Atom, Functor};
+ghost use Rattle.prolog_terms.specs.Faults.{indicator_tree};
 ghost use Rattle.prolog_terms.specs.Indicators.{indicator_of};
 ghost use Rattle.prolog_lexer.specs.Streams.{ahead};
-ghost use Rattle.prolog_reader.specs.Texts.{Answer, Says, read_of, tail};
+ghost use Rattle.prolog_reader.specs.Texts.{Answer, Says, Numbers, HasItsVariables, read_of, read_reading, tail};
 ghost use Rattle.prolog_session.specs.Load as load;
-ghost use Rattle.prolog_session.specs.Load.{IsWithinPart};
+ghost use Rattle.prolog_session.specs.Load.{IsReadyPart, IsReadyNext};
 
+use crate::kept::TextGoal;
 use crate::refusal::Refusal;
-use crate::reserved::{is_directive, is_grammar_rule, is_reserved};
-use prolog_clauses::{Declaring, Formed, clause_of, declaring_of};
+use crate::reserved::{is_grammar_rule, is_reserved};
+use prolog_clauses::{Declaring, Directive, Formed, clause_of, directive_of};
 use prolog_lexer::Lexer;
-use prolog_reader::{Read, read_term};
-use prolog_terms::{Clause, Indicator, Ops, Term, Want, term_indicator};
+use prolog_reader::{Read, ReadTerm, read_term};
+use prolog_terms::{
+    Clause, Fault, Indicator, Name, Node, Ops, ShownVariables, Term, Want, Whole, term_indicator,
+};
 use std::alloc::Global;
+use wam_machine::Goal;
 
 /// What a read-term is to a load.
 #[derive(Debug, Drop)]
@@ -21,77 +28,164 @@ pub enum Part {
     Clause(u64, Indicator, Clause),
     /// A directive `:- op(P, T, N)`, with its line.
     Operators(u64, Declaring),
+    /// A directive or a query whose goal is run at its place.
+    Goal(TextGoal),
+    /// A directive `:- initialization(G)`, whose goal is kept for the end of the text.
+    Kept(TextGoal),
+    /// A directive that says nothing.
+    Nothing,
+    /// A read-term in this line that can't be added: the error, and the call that raises it.
+    Raises(u64, Fault, Indicator),
+}
+
+/// What is next in a text.
+#[derive(Debug, Drop)]
+pub enum Next {
+    /// A read-term that the load takes.
+    Taken(Part),
+    /// A read-term that is refused, at which the load ends.
     Refused(Refusal),
     /// The end of the text.
     End,
 }
 
-/// The number of the fault where a term is no clause that a text may have.
-const NO_CLAUSE: u8 = 7;
-
-fn no_clause(line: u64) -> Part
-    ensures { result ≡ load.no_clause line }
+/// What is next in a text, under these operators.
+pub fn next_part(alloc: Global, lexer: &mut Lexer, ops: &Ops) -> Result<Next, Want>
+    ensures next { IfOk result (λ n. n ≡ load.next_of (read_of ops.now (ahead lexer.old))) }
+    ensures ready { IfOk result IsReadyNext }
+    ensures rest { IfOk result (λ _. ahead lexer.new ≡ (tail (ahead lexer.old)).rest) }
 {
-    Part::Refused(Refusal {
-        line,
-        fault: NO_CLAUSE,
-    })
+    let read = read_term(alloc, lexer, ops)?;
+    next_of(alloc, read)
+}
+
+fn next_of(alloc: Global, read: Read) -> Result<Next, Want>
+    requires { Numbers read }
+    ensures next { IfOk result (λ n. (a : Answer) → Says a read → n ≡ load.next_of a) }
+    ensures ready { IfOk result IsReadyNext }
+{
+    match read {
+        Read::Term(read) => Ok(Next::Taken(part_of(alloc, read)?)),
+        Read::Refused { line, fault } => Ok(Next::Refused(Refusal { line, fault })),
+        Read::End => Ok(Next::End),
+    }
+}
+
+fn part_of(alloc: Global, read: ReadTerm) -> Result<Part, Want>
+    requires { HasItsVariables (read_reading read) }
+    ensures part { IfOk result (λ p. p ≡ load.part_of read.line (read_reading read)) }
+    ensures ready { IfOk result IsReadyPart }
+{
+    match directive_of(alloc, &read.term)? {
+        Some(directive) => Ok(part_of_directive(read.line, directive, read.shown)),
+        None => part_of_term(alloc, read.line, &read.term),
+    }
+}
+
+fn part_of_directive(line: u64, directive: Directive, shown: ShownVariables) -> Part
+    ensures { result ≡ load.part_of_directive line shown directive }
+{
+    match directive {
+        Directive::Operators(declaring) => Part::Operators(line, declaring),
+        Directive::Nothing => Part::Nothing,
+        Directive::Kept(term) => Part::Kept(TextGoal {
+            line,
+            goal: Goal { term, shown },
+        }),
+        Directive::Goal(term) => Part::Goal(TextGoal {
+            line,
+            goal: Goal { term, shown },
+        }),
+    }
+}
+
+fn part_of_term(alloc: Global, line: u64, term: &Term) -> Result<Part, Want>
+    ensures part { IfOk result (λ p. p ≡ load.part_of_term line term.now (indicator_of term.now)) }
+    ensures ready { IfOk result IsReadyPart }
+{
+    if let Some(indicator) = term_indicator(alloc, term)? {
+        if is_grammar_rule(&indicator) {
+            return no_change(alloc, line, &indicator);
+        }
+    }
+    match clause_of(alloc, term)? {
+        Formed::Clause(clause) => part_of_clause(alloc, line, clause),
+        Formed::Refused(fault) => not_added(alloc, line, fault),
+    }
 }
 
 fn part_of_clause(alloc: Global, line: u64, clause: Clause) -> Result<Part, Want>
     ensures { IfOk result (λ p. p ≡ load.part_of_clause line clause (indicator_of clause.head)) }
 {
-    if let Some(indicator) = term_indicator(alloc, &clause.head)? {
-        if !is_reserved(&indicator) {
-            return Ok(Part::Clause(line, indicator, clause));
-        }
-    }
-    Ok(no_clause(line))
-}
-
-fn part_of_term(alloc: Global, line: u64, term: &Term) -> Result<Part, Want>
-    ensures part { IfOk result (λ p. p ≡ load.part_of_term line term.now) }
-    ensures within { IfOk result IsWithinPart }
-{
-    match declaring_of(alloc, term)? {
-        Some(declaring) => Ok(Part::Operators(line, declaring)),
-        None => part_of_named(alloc, line, term),
+    match term_indicator(alloc, &clause.head)? {
+        Some(indicator) => part_of_named(alloc, line, indicator, clause),
+        None => Ok(Part::Nothing),
     }
 }
 
-fn part_of_named(alloc: Global, line: u64, term: &Term) -> Result<Part, Want>
-    ensures { IfOk result (λ p. p ≡ load.part_of_named line term.now (indicator_of term.now)) }
+fn part_of_named(
+    alloc: Global,
+    line: u64,
+    indicator: Indicator,
+    clause: Clause,
+) -> Result<Part, Want>
+    ensures { IfOk result (λ p. p ≡ load.part_of_clause line clause (Some indicator)) }
 {
-    let indicator = match term_indicator(alloc, term)? {
-        Some(indicator) => indicator,
-        None => return Ok(no_clause(line)),
+    if is_reserved(&indicator) {
+        return no_change(alloc, line, &indicator);
+    }
+    Ok(Part::Clause(line, indicator, clause))
+}
+
+/// The error that no text may change the procedure of this name and arity.
+fn no_change(alloc: Global, line: u64, indicator: &Indicator) -> Result<Part, Want>
+    ensures { IfOk result (λ p. p ≡ load.not_added line (load.no_change indicator.now)) }
+{
+    let action = Name::of(alloc, b"modify")?;
+    let kind = Name::of(alloc, b"static_procedure")?;
+    let culprit = indicator_term(alloc, indicator)?;
+    not_added(alloc, line, Fault::Permission(action, kind, culprit))
+}
+
+/// The error is that of `assertz/1`.
+fn not_added(alloc: Global, line: u64, fault: Fault) -> Result<Part, Want>
+    ensures { IfOk result (λ p. p ≡ load.not_added line fault) }
+{
+    let assertz = Indicator {
+        name: Name::of(alloc, b"assertz")?,
+        arity: 1,
     };
-    if is_directive(&indicator) || is_grammar_rule(&indicator) {
-        return Ok(no_clause(line));
-    }
-    match clause_of(alloc, term)? {
-        Formed::Clause(clause) => part_of_clause(alloc, line, clause),
-        Formed::Refused(_) => Ok(no_clause(line)),
-    }
+    Ok(Part::Raises(line, fault, assertz))
 }
 
-fn part_of(alloc: Global, read: Read) -> Result<Part, Want>
-    ensures part { IfOk result (λ p. (a : Answer) → Says a read → p ≡ load.part_of a) }
-    ensures within { IfOk result IsWithinPart }
+fn put_slash(nodes: &mut Vec<Node>, alloc: Global) -> Result<(), Want>
+    ensures { OnOk result (nodes.new.items ≡ nodes.old.items ++ Functor (codes "/") 2 ∷ []) }
 {
-    match read {
-        Read::Term(read) => part_of_term(alloc, read.line, &read.term),
-        Read::Refused { line, fault } => Ok(Part::Refused(Refusal { line, fault })),
-        Read::End => Ok(Part::End),
-    }
+    nodes.push(Node::Functor(Name::of(alloc, b"/")?, 2))?;
+    Ok(())
 }
 
-/// The next read-term, under these operators.
-pub fn next_part(alloc: Global, lexer: &mut Lexer, ops: &Ops) -> Result<Part, Want>
-    ensures part { IfOk result (λ p. p ≡ load.part_of (read_of ops.now (ahead lexer.old))) }
-    ensures within { IfOk result IsWithinPart }
-    ensures rest { IfOk result (λ _. ahead lexer.new ≡ (tail (ahead lexer.old)).rest) }
+fn put_name(nodes: &mut Vec<Node>, name: &Name) -> Result<(), Want>
+    ensures { OnOk result (nodes.new.items ≡ nodes.old.items ++ Atom name.now ∷ []) }
 {
-    let read = read_term(alloc, lexer, ops)?;
-    part_of(alloc, read)
+    nodes.push(Node::Atom(name.clone()?))?;
+    Ok(())
+}
+
+fn put_indicator(nodes: &mut Vec<Node>, alloc: Global, indicator: &Indicator) -> Result<(), Want>
+    ensures { OnOk result (nodes.new.items ≡ nodes.old.items ++ nodes_of (indicator_tree indicator.now)) }
+{
+    put_slash(nodes, alloc)?;
+    put_name(nodes, &indicator.name)?;
+    nodes.push(Node::Int(Whole::from(indicator.arity)))?;
+    Ok(())
+}
+
+/// The term of a name and arity.
+fn indicator_term(alloc: Global, indicator: &Indicator) -> Result<Term, Want>
+    ensures { IfOk result (λ t. t ≡ indicator_tree indicator.now) }
+{
+    let mut nodes = Vec::new(alloc);
+    put_indicator(&mut nodes, alloc, indicator)?;
+    Ok(Term::from_prefix(nodes))
 }

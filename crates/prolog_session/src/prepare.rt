@@ -26,7 +26,7 @@ pub enum Prepared {
     Ran(Entries, Runs, Ops),
 }
 
-/// Reads the words and the source, loads the text and runs the goal.
+/// Reads the words and the source, loads the text and runs the goal. Each goal of the text has the steps of the words, too.
 pub fn prepare<R: Wait, S: Source, G: Gate>(
     rt: &R,
     alloc: Global,
@@ -51,7 +51,7 @@ pub fn prepare<R: Wait, S: Source, G: Gate>(
         Text::Failed => return Ok(Prepared::SourceFailed),
         Text::Want => return Err(Want),
     };
-    let load = load_text(rt, alloc, sizes, &text)?;
+    let load = load_text(rt, alloc, gate, command.steps, sizes, &text)?;
     if let Some(refusal) = load.refused {
         return Ok(Prepared::Refused(load.base.into_entries(), load.runs, load.ops, refusal));
     }

@@ -46,17 +46,7 @@ const OF_CLAUSES: [Row; 2] = [
     (2, &["clause"]),
 ];
 
-const DIRECTIVES: [Row; 1] = [(1, &[":-", "?-"])];
-
 const GRAMMAR_RULES: [Row; 1] = [(2, &["-->"])];
-
-/// Whether the indicator is that of a directive or a query, which is no clause and no goal.
-#[tactic(auto, unfolding(crate::specs::Reserved::directives))]
-pub fn is_directive(indicator: &Indicator) -> bool
-    ensures { result ≡ reserved.is_directive indicator.now }
-{
-    is_in(indicator, &DIRECTIVES)
-}
 
 /// Whether the indicator is that of a grammar rule, which is no clause.
 #[tactic(auto, unfolding(crate::specs::Reserved::grammar_rules))]

@@ -1,17 +1,18 @@
 // The run of a command's goal, and the status that runs give.
-ghost use Rattle.std.specs.Prelude.{◌≡◌, ◌↔◌, IfOk, IsTrue};
+ghost use Rattle.std.specs.Prelude.{◌≡◌, IfOk};
 ghost use Rattle.std.specs.List.{list_any};
 ghost use Rattle.prolog_session.specs.Words.{IsReady};
 ghost use Rattle.prolog_session.specs.Runs.{AreRunsBehind, ends_in_ball, ends_spent, status_of};
 
+use crate::goal_run::run_goal;
 use crate::load::Load;
 use crate::runs::Runs;
 use crate::words::Command;
-use journal_base::{Gate, PlainBase};
+use journal_base::Gate;
 use prolog_terms::{Entries, Ops, Want};
 use std::alloc::Global;
 use std::sync::Wait;
-use wam_machine::{Engine, Run, RunEnd};
+use wam_machine::{Run, RunEnd};
 
 /// The engine of the first goal.
 const FIRST: u32 = 1;
@@ -56,29 +57,22 @@ pub fn run_command<R: Wait, G: Gate>(
             });
         }
     };
-    let mut engine = match Engine::new(alloc, base.renumbered(FIRST), ops.copy()?) {
-        Ok(engine) => engine,
-        Err(_) => return Err(Want),
-    };
-    let run = engine.solve(rt, &goal, steps, gate);
-    if wants(&run) {
-        return Err(Want);
-    }
-    runs.push(run)?;
+    let ran = run_goal(
+        rt,
+        alloc,
+        gate,
+        steps,
+        base.renumbered(FIRST),
+        &ops,
+        0,
+        &goal,
+    )?;
+    runs.push(ran.run)?;
     Ok(Ran {
-        journal: engine.into_base().into_entries(),
+        journal: ran.base.into_entries(),
         runs,
         ops,
     })
-}
-
-fn wants(run: &Run) -> bool
-    ensures { IsTrue result ↔ (run.now.end ≡ RunEnd.Want) }
-{
-    match run.end {
-        RunEnd::Want => true,
-        _ => false,
-    }
 }
 
 fn is_ball(run: &Run) -> bool

@@ -5,12 +5,12 @@ ghost use Rattle.journal_base.specs.Legal.{Legal};
 ghost use Rattle.prolog_session.specs.FaultCounts.{Rose};
 ghost use Rattle.prolog_session.specs.WholeText.{max_text};
 ghost use Rattle.prolog_session.specs.Sinks.{AppendsPrefix};
-ghost use Rattle.prolog_session.specs.Load.{journal_of, load_runs_of, operators_of, refusal_of};
+ghost use Rattle.prolog_session.specs.Load.{IsLoadOf, journal_of, operators_of, refusal_of};
 ghost use Rattle.prolog_session.specs.Words.{command_of};
-ghost use Rattle.prolog_session.specs.Runs.{AreRunsBehind, EndsInBall, EndsSpent};
+ghost use Rattle.prolog_session.specs.Runs.{EndsInBall, EndsSpent};
 ghost use Rattle.prolog_session.specs.Errors.{bad_words_text, source_text, too_long_text, refusal_text};
 ghost use Rattle.prolog_session.specs.Output.{load_text, output_of};
-ghost use Rattle.prolog_session.specs.Headline.{IsRun, HasRuns, IsLoaded, IsEmpty, IsStatus, expected, Ends, IsTooLong, HasRun, HasWritten, HasRefused, Gains, HasBegun};
+ghost use Rattle.prolog_session.specs.Headline.{IsRun, HasRuns, IsLoaded, IsEmpty, IsStatus, expected, Ends, IsTooLong, AreRunsOf, HasRun, HasWritten, HasRefused, Gains, HasBegun};
 
 use crate::finish::{Outcome, finish};
 use crate::prepare::prepare;
@@ -20,10 +20,11 @@ use std::alloc::Global;
 use std::sync::Wait;
 use std::thread::Threads;
 
-/// Reads the whole source, loads its clauses into a base of these sizes, runs the goal of the words and writes the answers. A
-/// clause for which the base has no room has a run of its own, and the load goes on. The status is 0, 1 or 7 after the runs
-/// (1 where one ends in a ball, else 7 where one has spent its budget), and else the number of what went wrong: 2 bad words,
-/// 3 a read-term that is refused, 4 the source failed, 5 the sink failed, 6 memory was wanted, 8 the text is too long.
+/// Reads the whole source, loads its clauses into a base of these sizes and runs its directives on the way, runs the goal of the
+/// words and writes the answers. What the load can't add, and what has no room, has a run of its own that ends in an error, and
+/// the load goes on. The status is 0, 1 or 7 after the runs (1 where one ends in a ball, else 7 where one has spent its budget),
+/// and else the number of what went wrong: 2 bad words, 3 a read-term that is refused, 4 the source failed, 5 the sink failed,
+/// 6 memory was wanted, 8 the text is too long.
 pub fn top<R: Threads + Wait + Sync, S: Source, K: Sink, G: Gate + Sync>(
     rt: &R,
     alloc: Global,
@@ -51,15 +52,17 @@ pub fn top<R: Threads + Wait + Sync, S: Source, K: Sink, G: Gate + Sync>(
     ensures complete { IfSome (S.left source.old) (λ text. Ends (expected (command_of (map string_bytes words.now)) text result.runs)
         (Rose (S.faults source.old) (S.faults source.new)) (Rose (K.faults sink.old) (K.faults sink.new)) result.status) }
 
-    // The journal is the load's, and the runs are the load's, with the goal's run over that journal behind them.
+    // The journal is the load's, and the runs are the load's, with the goal's run over that journal behind them. Each goal of the
+    // text and that of the words has the steps of the words at most.
     ensures journal { IsLoaded result.status → IfSome (S.left source.old) (λ text. result.journal ≡ journal_of sizes text) }
     ensures loaded { HasRuns result.status → HasRun sizes (command_of (map string_bytes words.now)) (S.left source.old) (S.left source.new) result.journal result.runs }
-    ensures loaded_in_part { result.status ≡ 3 → HasRefused sizes (S.left source.old) (S.left source.new) result.journal result.runs
+    ensures loaded_in_part { result.status ≡ 3 → HasRefused sizes (command_of (map string_bytes words.now)) (S.left source.old) (S.left source.new) result.journal result.runs
         (Rose (K.faults sink.old) (K.faults sink.new)) (K.written sink.old) (K.written sink.new) }
     ensures legal { IsLoaded result.status → Legal sizes.words sizes.updates result.journal }
     ensures runs { HasRuns result.status → IfSome (S.left source.old) (λ text. IfSome (command_of (map string_bytes words.now)) (λ command.
-        AreRunsBehind (load_runs_of sizes text) command result.journal result.runs)) }
-    ensures load_runs { result.status ≡ 3 → IfSome (S.left source.old) (λ text. result.runs ≡ load_runs_of sizes text) }
+        AreRunsOf sizes text command result.journal result.runs)) }
+    ensures load_runs { result.status ≡ 3 → IfSome (S.left source.old) (λ text. IfSome (command_of (map string_bytes words.now)) (λ command.
+        IsLoadOf sizes command.steps text result.journal result.runs)) }
     ensures empty_journal { IsEmpty result.status → result.journal ≡ [] }
     ensures empty_runs { IsEmpty result.status → result.runs ≡ [] }
 

@@ -61,51 +61,268 @@ const FAULTS: [Row; 13] = [
     ("a. 'b", &["true"], 3, "error: line 1: fault 2.\n"),
 ];
 
-// Terms that are read, and are no clauses that a text may have.
-const NO_CLAUSES: [Row; 22] = [
-    ("a.\n\n3.\n", &["true"], 3, "error: line 3: fault 7.\n"),
-    ("3.\n", &["true"], 3, REFUSED),
-    ("X.\n", &["true"], 3, REFUSED),
-    ("X :- a.\n", &["true"], 3, REFUSED),
-    ("3 :- a.\n", &["true"], 3, REFUSED),
-    (":- p.\n", &["true"], 3, REFUSED),
-    ("?- p.\n", &["true"], 3, REFUSED),
-    ("p --> q.\n", &["true"], 3, REFUSED),
-    ("true.\n", &["true"], 3, REFUSED),
-    ("write(a).\n", &["true"], 3, REFUSED),
-    ("call(a,b,c,d,e,f,g,h).\n", &[], 3, REFUSED),
-    ("a, b.\n", &["true"], 3, REFUSED),
-    ("X = X.\n", &["true"], 3, REFUSED),
-    ("X = Y :- p(X, Y).\n", &["true"], 3, REFUSED),
-    ("a ; b :- c.\n", &["true"], 3, REFUSED),
-    ("! :- c.\n", &["true"], 3, REFUSED),
-    ("p :- X.\n", &["true"], 3, REFUSED),
-    ("p :- 3.\n", &["true"], 3, REFUSED),
-    ("p(X) :- q(X), X.\n", &["true"], 3, REFUSED),
-    ("p :- q ; 1.\n", &["true"], 3, REFUSED),
-    ("p :- q -> X.\n", &["true"], 3, REFUSED),
+// Read-terms that can't be added: each has a run of its own, and the load goes on.
+const NO_CLAUSES: [Row; 23] = [
     (
-        "a.\n% b\n\np :-\n    q,\n    7.\n",
+        "a.\n\n3.\nb.\n",
+        &["b"],
+        1,
+        "% line 3: error: error(type_error(callable,3),assertz/1).\n% goal 1\ntrue.\n",
+    ),
+    (
+        "X.\n",
+        &[],
+        1,
+        "% line 1: error: error(instantiation_error,assertz/1).\n",
+    ),
+    (
+        "X :- a.\n",
+        &[],
+        1,
+        "% line 1: error: error(instantiation_error,assertz/1).\n",
+    ),
+    (
+        "X :- 3.\n",
+        &[],
+        1,
+        "% line 1: error: error(instantiation_error,assertz/1).\n",
+    ),
+    (
+        "3 :- a.\n",
+        &[],
+        1,
+        "% line 1: error: error(type_error(callable,3),assertz/1).\n",
+    ),
+    (
+        "-7 :- X.\n",
+        &[],
+        1,
+        "% line 1: error: error(type_error(callable,-7),assertz/1).\n",
+    ),
+    (
+        "p --> q.\n",
+        &["true"],
+        1,
+        "% line 1: error: error(permission_error(modify,static_procedure,(-->)/2),assertz/1).\n% goal 1\ntrue.\n",
+    ),
+    (
+        "3 --> X.\n",
+        &[],
+        1,
+        "% line 1: error: error(permission_error(modify,static_procedure,(-->)/2),assertz/1).\n",
+    ),
+    (
+        "true.\n",
+        &[],
+        1,
+        "% line 1: error: error(permission_error(modify,static_procedure,true/0),assertz/1).\n",
+    ),
+    (
+        "write(a).\n",
+        &[],
+        1,
+        "% line 1: error: error(permission_error(modify,static_procedure,write/1),assertz/1).\n",
+    ),
+    (
+        "call(a,b,c,d,e,f,g,h).\n",
+        &[],
+        1,
+        "% line 1: error: error(permission_error(modify,static_procedure,call/8),assertz/1).\n",
+    ),
+    (
+        "a, b.\n",
+        &[],
+        1,
+        "% line 1: error: error(permission_error(modify,static_procedure,(',')/2),assertz/1).\n",
+    ),
+    (
+        "X = X.\n",
+        &[],
+        1,
+        "% line 1: error: error(permission_error(modify,static_procedure,(=)/2),assertz/1).\n",
+    ),
+    (
+        "X = Y :- p(X, Y).\n",
+        &[],
+        1,
+        "% line 1: error: error(permission_error(modify,static_procedure,(=)/2),assertz/1).\n",
+    ),
+    (
+        "a ; b :- c.\n",
+        &[],
+        1,
+        "% line 1: error: error(permission_error(modify,static_procedure,(;)/2),assertz/1).\n",
+    ),
+    (
+        "! :- c.\n",
+        &[],
+        1,
+        "% line 1: error: error(permission_error(modify,static_procedure,!/0),assertz/1).\n",
+    ),
+    (
+        "atom(_) :- 1.\n",
+        &[],
+        1,
+        "% line 1: error: error(type_error(callable,1),assertz/1).\n",
+    ),
+    (
+        "p :- 3.\n",
+        &[],
+        1,
+        "% line 1: error: error(type_error(callable,3),assertz/1).\n",
+    ),
+    (
+        "p(X) :- q(Y, X), Z, 1.\n",
+        &[],
+        1,
+        "% line 1: error: error(type_error(callable,(q(_1,_2),_3,1)),assertz/1).\n",
+    ),
+    (
+        "p :- q ; 1.\n",
+        &[],
+        1,
+        "% line 1: error: error(type_error(callable,(q;1)),assertz/1).\n",
+    ),
+    (
+        "p :- q -> X ; 1.\n",
+        &[],
+        1,
+        "% line 1: error: error(type_error(callable,(q->_1;1)),assertz/1).\n",
+    ),
+    (
+        "a.\n% b\n\np :-\n    q,\n    7.\nc.\nX.\n",
+        &["c"],
+        1,
+        "% line 4: error: error(type_error(callable,(q,7)),assertz/1).\n% line 8: error: error(instantiation_error,assertz/1).\n% goal 1\ntrue.\n",
+    ),
+    (
+        "a.\n3.\nb :- c d.\n",
         &["true"],
         3,
-        "error: line 4: fault 7.\n",
+        "% line 2: error: error(type_error(callable,3),assertz/1).\nerror: line 3: fault 7.\n",
     ),
 ];
 
-const NO_COMMANDS: [Row; 24] = [
+// Directives and queries of a text, which engine 0 runs at their places, and goals that are kept for its end.
+const DIRECTIVES: [Row; 20] = [
+    (":- fail.\n", &[], 0, "% line 1: false.\n"),
+    (":- true.\n?- true.\n", &[], 0, ""),
+    (
+        "p(a).\n\n:- p(X), q(X).\nq(b).\n?- p(b).\n:- foo.\n",
+        &["p(X)"],
+        1,
+        "% line 3: error: error(existence_error(procedure,q/1),q/1).\n% line 5: false.\n% line 6: error: error(existence_error(procedure,foo/0),foo/0).\n% goal 1\nX = a.\n",
+    ),
+    (
+        "p(a).\n?- p(X).\n:- p(b).\np(b).\n:- p(b).\n",
+        &["p(X)"],
+        0,
+        "% line 3: false.\n% goal 1\nX = a ;\nX = b.\n",
+    ),
+    (
+        "loop :- loop.\n:- loop.\np.\n",
+        &["--steps", "10", "p"],
+        7,
+        "% line 2: stopped after 10 steps.\n% goal 1\ntrue.\n",
+    ),
+    (
+        "loop :- loop.\n:- loop.\n:- foo.\n",
+        &["--steps", "10"],
+        1,
+        "% line 2: stopped after 10 steps.\n% line 3: error: error(existence_error(procedure,foo/0),foo/0).\n",
+    ),
+    (
+        ":- 1.\n",
+        &[],
+        1,
+        "% line 1: error: error(type_error(callable,1),call/1).\n",
+    ),
+    (
+        ":- X.\n",
+        &[],
+        1,
+        "% line 1: error: error(instantiation_error,call/1).\n",
+    ),
+    (
+        ":- p, 1.\n",
+        &[],
+        1,
+        "% line 1: error: error(type_error(callable,(p,1)),call/1).\n",
+    ),
+    (
+        "?- op(700, xfx, eq).\n",
+        &[],
+        1,
+        "% line 1: error: error(existence_error(procedure,op/3),op/3).\n",
+    ),
+    (
+        ":- op(700, xfx).\n",
+        &[],
+        1,
+        "% line 1: error: error(existence_error(procedure,op/2),op/2).\n",
+    ),
+    (
+        ":- dynamic(p/1).\n",
+        &[],
+        1,
+        "% line 1: error: error(existence_error(procedure,(dynamic)/1),(dynamic)/1).\n",
+    ),
+    (
+        ":- discontiguous(p/1).\n:- multifile q/2, r/3.\n:- discontiguous _.\np.\n",
+        &["p"],
+        0,
+        "% goal 1\ntrue.\n",
+    ),
+    (
+        "?- discontiguous(p/1).\n?- initialization(p).\n",
+        &[],
+        1,
+        "% line 1: error: error(existence_error(procedure,(discontiguous)/1),(discontiguous)/1).\n% line 2: error: error(existence_error(procedure,(initialization)/1),(initialization)/1).\n",
+    ),
+    (
+        ":- initialization(a).\n:- initialization(b).\n\n:- initialization(fail).\n:- fail.\na.\n",
+        &["a"],
+        1,
+        "% line 5: false.\n% line 2: error: error(existence_error(procedure,b/0),b/0).\n% line 4: false.\n% goal 1\ntrue.\n",
+    ),
+    (
+        ":- initialization(p(X)).\n:- p(a).\np(b).\n",
+        &[],
+        1,
+        "% line 2: error: error(existence_error(procedure,p/1),p/1).\n",
+    ),
+    (
+        ":- initialization(fail).\n:- fail.\na b.\n:- fail.\n",
+        &["true"],
+        3,
+        "% line 2: false.\nerror: line 3: fault 7.\n",
+    ),
+    (
+        ":- foo(a eq b).\n",
+        &["true"],
+        3,
+        "error: line 1: fault 7.\n",
+    ),
+    (
+        ":- fail, op(700, xfx, eq).\n:- foo(eq(a, b)).\n:- op(700, xfx, eq).\n",
+        &[],
+        1,
+        "% line 1: false.\n% line 2: error: error(existence_error(procedure,foo/1),foo/1).\n",
+    ),
+    (
+        ":- (:- a).\n",
+        &[],
+        1,
+        "% line 1: error: error(existence_error(procedure,(:-)/1),(:-)/1).\n",
+    ),
+];
+
+const NO_COMMANDS: [Row; 16] = [
     ("", &["a", "b"], 2, BAD_WORDS),
     ("", &[""], 2, BAD_WORDS),
-    ("", &["3"], 2, BAD_WORDS),
-    ("", &["X"], 2, BAD_WORDS),
     ("", &["p("], 2, BAD_WORDS),
     ("", &["a. b."], 2, BAD_WORDS),
     ("", &["a. 'b"], 2, BAD_WORDS),
-    ("", &[":- a"], 2, BAD_WORDS),
-    ("", &["?- a"], 2, BAD_WORDS),
-    ("", &["p, X"], 2, BAD_WORDS),
-    ("", &["1, p"], 2, BAD_WORDS),
-    ("", &["p ; 1"], 2, BAD_WORDS),
-    ("", &["X -> p"], 2, BAD_WORDS),
     ("", &["--steps"], 2, BAD_WORDS),
     ("", &["--steps", "0"], 2, BAD_WORDS),
     ("", &["--steps", ""], 2, BAD_WORDS),
@@ -134,7 +351,14 @@ const LOADS: [Row; 6] = [
     ),
 ];
 
-const RUNS: [Row; 25] = [
+const RUNS: [Row; 27] = [
+    ("p(G) :- G.\n", &["p(X = a)"], 0, "% goal 1\nX = a.\n"),
+    (
+        "p :- X.\n",
+        &["p"],
+        1,
+        "% goal 1\nerror: error(instantiation_error,call/1).\n",
+    ),
     ("", &["true"], 0, "% goal 1\ntrue.\n"),
     ("p(a). p(b). p(c).\n", &["p(b)"], 0, "% goal 1\ntrue.\n"),
     ("p(a). p(b). p(c).\n", &["p(b)."], 0, "% goal 1\ntrue.\n"),
@@ -232,6 +456,470 @@ const RUNS: [Row; 25] = [
     ),
 ];
 
+// Goals of control, each in as many steps as it takes: the cut in clauses, in `\+`, in `call`, in conditions, in the branches of a
+// `->`, on both sides of a `;` and behind `repeat`; conditions within conditions; goals with arguments added.
+const CONTROL: [Row; 28] = [
+    (
+        "",
+        &["--steps", "3", "(X = 1 ; X = 2), !"],
+        0,
+        "% goal 1\nX = 1.\n",
+    ),
+    (
+        "q(X) :- p(X), !. q(3). p(1). p(2).\n",
+        &["--steps", "3", "q(X)"],
+        0,
+        "% goal 1\nX = 1.\n",
+    ),
+    (
+        "",
+        &["--steps", "3", "\\+ (!, fail)"],
+        0,
+        "% goal 1\ntrue.\n",
+    ),
+    (
+        "",
+        &["--steps", "10", "(X = 1 ; X = 2), \\+ \\+ !"],
+        0,
+        "% goal 1\nX = 1 ;\nX = 2.\n",
+    ),
+    (
+        "",
+        &["--steps", "3", "\\+ \\+ X = a"],
+        0,
+        "% goal 1\nX = _1.\n",
+    ),
+    (
+        "p(1). p(2).\n",
+        &["--steps", "8", "\\+ p(3), p(X), \\+ X = 1"],
+        0,
+        "% goal 1\nX = 2.\n",
+    ),
+    (
+        "",
+        &["--steps", "8", "(X = 1 ; X = 2), call(!)"],
+        0,
+        "% goal 1\nX = 1 ;\nX = 2.\n",
+    ),
+    (
+        "",
+        &["--steps", "4", "call((!, fail ; true))"],
+        0,
+        "% goal 1\nfalse.\n",
+    ),
+    (
+        "p(1). p(2).\n",
+        &["--steps", "3", "call((p(X), !))"],
+        0,
+        "% goal 1\nX = 1.\n",
+    ),
+    (
+        "",
+        &["--steps", "5", "(X = 1 ; X = 2), ! -> true ; X = 3"],
+        0,
+        "% goal 1\nX = 1.\n",
+    ),
+    (
+        "",
+        &["--steps", "5", "!, fail -> true ; X = 2"],
+        0,
+        "% goal 1\nX = 2.\n",
+    ),
+    (
+        "p(1). p(2).\n",
+        &["--steps", "4", "p(X), (true -> ! ; true)"],
+        0,
+        "% goal 1\nX = 1.\n",
+    ),
+    (
+        "p(1). p(2).\n",
+        &["--steps", "5", "p(X), (fail -> true ; !)"],
+        0,
+        "% goal 1\nX = 1.\n",
+    ),
+    (
+        "p(1). p(2).\n",
+        &["--steps", "4", "p(X), (true -> !)"],
+        0,
+        "% goal 1\nX = 1.\n",
+    ),
+    (
+        "p(1). p(2).\n",
+        &["--steps", "3", "p(X), (! ; true)"],
+        0,
+        "% goal 1\nX = 1.\n",
+    ),
+    (
+        "p(1). p(2).\n",
+        &["--steps", "5", "p(X), (fail ; !)"],
+        0,
+        "% goal 1\nX = 1.\n",
+    ),
+    ("", &["--steps", "2", "repeat, !"], 0, "% goal 1\ntrue.\n"),
+    (
+        "p(1). p(2).\n",
+        &["--steps", "6", "repeat, p(X), X = 2, !"],
+        0,
+        "% goal 1\nX = 2.\n",
+    ),
+    (
+        "p(1). p(2).\n",
+        &["--steps", "3", "p(X) -> true ; true"],
+        0,
+        "% goal 1\nX = 1.\n",
+    ),
+    (
+        "",
+        &["--steps", "6", "(fail -> true ; true) -> X = 1 ; X = 2"],
+        0,
+        "% goal 1\nX = 1.\n",
+    ),
+    (
+        "",
+        &["--steps", "7", "fail -> X = 1 ; fail -> X = 2 ; X = 3"],
+        0,
+        "% goal 1\nX = 3.\n",
+    ),
+    (
+        "p(1). p(2).\n",
+        &["--steps", "3", "p(X) -> fail"],
+        0,
+        "% goal 1\nfalse.\n",
+    ),
+    (
+        "f(a,b).\n",
+        &["--steps", "2", "call(f, A, B)"],
+        0,
+        "% goal 1\nA = a, B = b.\n",
+    ),
+    (
+        "f(a,b).\n",
+        &["--steps", "2", "call(f(A), B)"],
+        0,
+        "% goal 1\nA = a, B = b.\n",
+    ),
+    (
+        "f(a,b).\n",
+        &["--steps", "4", "call(call, call, f(A), B)"],
+        0,
+        "% goal 1\nA = a, B = b.\n",
+    ),
+    (
+        "mem(X, [X|_]). mem(X, [_|T]) :- mem(X, T).\n",
+        &["--steps", "5", "once(mem(X, [a,b]))"],
+        0,
+        "% goal 1\nX = a.\n",
+    ),
+    (
+        "",
+        &["--steps", "4", "G = !, call((G ; true))"],
+        0,
+        "% goal 1\nG = !.\n",
+    ),
+    (
+        "p(1). p(2).\n",
+        &["--steps", "4", "G = (p(X), !), G"],
+        0,
+        "% goal 1\nG = (p(1),!), X = 1.\n",
+    ),
+];
+
+// The same goals in one step fewer.
+const CONTROL_CUT: [Row; 29] = [
+    (
+        "",
+        &["--steps", "2", "(X = 1 ; X = 2), !"],
+        7,
+        "% goal 1\nstopped after 2 steps.\n",
+    ),
+    (
+        "q(X) :- p(X), !. q(3). p(1). p(2).\n",
+        &["--steps", "2", "q(X)"],
+        7,
+        "% goal 1\nstopped after 2 steps.\n",
+    ),
+    (
+        "",
+        &["--steps", "2", "\\+ (!, fail)"],
+        7,
+        "% goal 1\nstopped after 2 steps.\n",
+    ),
+    (
+        "",
+        &["--steps", "9", "(X = 1 ; X = 2), \\+ \\+ !"],
+        7,
+        "% goal 1\nX = 1 ;\nstopped after 9 steps.\n",
+    ),
+    (
+        "",
+        &["--steps", "2", "\\+ \\+ X = a"],
+        7,
+        "% goal 1\nstopped after 2 steps.\n",
+    ),
+    (
+        "p(1). p(2).\n",
+        &["--steps", "7", "\\+ p(3), p(X), \\+ X = 1"],
+        7,
+        "% goal 1\nstopped after 7 steps.\n",
+    ),
+    (
+        "",
+        &["--steps", "7", "(X = 1 ; X = 2), call(!)"],
+        7,
+        "% goal 1\nX = 1 ;\nstopped after 7 steps.\n",
+    ),
+    (
+        "",
+        &["--steps", "3", "call((!, fail ; true))"],
+        7,
+        "% goal 1\nstopped after 3 steps.\n",
+    ),
+    (
+        "p(1). p(2).\n",
+        &["--steps", "2", "call((p(X), !))"],
+        7,
+        "% goal 1\nstopped after 2 steps.\n",
+    ),
+    (
+        "",
+        &["--steps", "4", "(X = 1 ; X = 2), ! -> true ; X = 3"],
+        7,
+        "% goal 1\nstopped after 4 steps.\n",
+    ),
+    (
+        "",
+        &["--steps", "4", "!, fail -> true ; X = 2"],
+        7,
+        "% goal 1\nstopped after 4 steps.\n",
+    ),
+    (
+        "p(1). p(2).\n",
+        &["--steps", "3", "p(X), (true -> ! ; true)"],
+        7,
+        "% goal 1\nstopped after 3 steps.\n",
+    ),
+    (
+        "p(1). p(2).\n",
+        &["--steps", "4", "p(X), (fail -> true ; !)"],
+        7,
+        "% goal 1\nstopped after 4 steps.\n",
+    ),
+    (
+        "p(1). p(2).\n",
+        &["--steps", "3", "p(X), (true -> !)"],
+        7,
+        "% goal 1\nstopped after 3 steps.\n",
+    ),
+    (
+        "p(1). p(2).\n",
+        &["--steps", "2", "p(X), (! ; true)"],
+        7,
+        "% goal 1\nstopped after 2 steps.\n",
+    ),
+    (
+        "p(1). p(2).\n",
+        &["--steps", "4", "p(X), (fail ; !)"],
+        7,
+        "% goal 1\nstopped after 4 steps.\n",
+    ),
+    (
+        "",
+        &["--steps", "1", "repeat, !"],
+        7,
+        "% goal 1\nstopped after 1 steps.\n",
+    ),
+    (
+        "p(1). p(2).\n",
+        &["--steps", "5", "repeat, p(X), X = 2, !"],
+        7,
+        "% goal 1\nstopped after 5 steps.\n",
+    ),
+    (
+        "p(1). p(2).\n",
+        &["--steps", "2", "p(X) -> true ; true"],
+        7,
+        "% goal 1\nstopped after 2 steps.\n",
+    ),
+    (
+        "",
+        &["--steps", "5", "(fail -> true ; true) -> X = 1 ; X = 2"],
+        7,
+        "% goal 1\nstopped after 5 steps.\n",
+    ),
+    (
+        "",
+        &["--steps", "6", "fail -> X = 1 ; fail -> X = 2 ; X = 3"],
+        7,
+        "% goal 1\nstopped after 6 steps.\n",
+    ),
+    (
+        "p(1). p(2).\n",
+        &["--steps", "2", "p(X) -> fail"],
+        7,
+        "% goal 1\nstopped after 2 steps.\n",
+    ),
+    (
+        "f(a,b).\n",
+        &["--steps", "1", "call(f, A, B)"],
+        7,
+        "% goal 1\nstopped after 1 steps.\n",
+    ),
+    (
+        "f(a,b).\n",
+        &["--steps", "1", "call(f(A), B)"],
+        7,
+        "% goal 1\nstopped after 1 steps.\n",
+    ),
+    (
+        "f(a,b).\n",
+        &["--steps", "3", "call(call, call, f(A), B)"],
+        7,
+        "% goal 1\nstopped after 3 steps.\n",
+    ),
+    (
+        "mem(X, [X|_]). mem(X, [_|T]) :- mem(X, T).\n",
+        &["--steps", "4", "once(mem(X, [a,b]))"],
+        7,
+        "% goal 1\nstopped after 4 steps.\n",
+    ),
+    (
+        "",
+        &["--steps", "3", "G = !, call((G ; true))"],
+        7,
+        "% goal 1\nstopped after 3 steps.\n",
+    ),
+    (
+        "p(1). p(2).\n",
+        &["--steps", "3", "G = (p(X), !), G"],
+        7,
+        "% goal 1\nstopped after 3 steps.\n",
+    ),
+    (
+        "",
+        &["--steps", "3", "repeat"],
+        7,
+        "% goal 1\ntrue ;\ntrue ;\ntrue ;\nstopped after 3 steps.\n",
+    ),
+];
+
+// Goals that raise an error, among them those that are no body.
+const RAISED: [Row; 19] = [
+    (
+        "",
+        &["G"],
+        1,
+        "% goal 1\nerror: error(instantiation_error,call/1).\n",
+    ),
+    (
+        "",
+        &["1"],
+        1,
+        "% goal 1\nerror: error(type_error(callable,1),call/1).\n",
+    ),
+    (
+        "",
+        &["call((foo,1))"],
+        1,
+        "% goal 1\nerror: error(type_error(callable,(foo,1)),call/1).\n",
+    ),
+    (
+        "",
+        &["p ; 1"],
+        1,
+        "% goal 1\nerror: error(type_error(callable,(p;1)),call/1).\n",
+    ),
+    (
+        "",
+        &["1, p"],
+        1,
+        "% goal 1\nerror: error(type_error(callable,(1,p)),call/1).\n",
+    ),
+    (
+        "",
+        &["call(1, a)"],
+        1,
+        "% goal 1\nerror: error(type_error(callable,1),call/2).\n",
+    ),
+    (
+        "",
+        &["call(X, a, b)"],
+        1,
+        "% goal 1\nerror: error(instantiation_error,call/3).\n",
+    ),
+    (
+        "",
+        &["call((foo :- 1), a)"],
+        1,
+        "% goal 1\nerror: error(existence_error(procedure,(:-)/3),(:-)/3).\n",
+    ),
+    (
+        "",
+        &["call(','(foo), 1)"],
+        1,
+        "% goal 1\nerror: error(type_error(callable,(foo,1)),call/2).\n",
+    ),
+    (
+        "",
+        &["call(g, 1, 2, 3, 4, 5, 6, 7)"],
+        1,
+        "% goal 1\nerror: error(existence_error(procedure,g/7),g/7).\n",
+    ),
+    (
+        "",
+        &["call(g, 1, 2, 3, 4, 5, 6, 7, 8)"],
+        1,
+        "% goal 1\nerror: error(existence_error(procedure,call/9),call/9).\n",
+    ),
+    (
+        "",
+        &["\\+ 1"],
+        1,
+        "% goal 1\nerror: error(type_error(callable,1),(\\+)/1).\n",
+    ),
+    (
+        "",
+        &["\\+ X"],
+        1,
+        "% goal 1\nerror: error(instantiation_error,call/1).\n",
+    ),
+    (
+        "",
+        &["once(1)"],
+        1,
+        "% goal 1\nerror: error(type_error(callable,1),call/1).\n",
+    ),
+    (
+        "",
+        &["X -> p"],
+        1,
+        "% goal 1\nerror: error(instantiation_error,call/1).\n",
+    ),
+    (
+        "",
+        &["true, X"],
+        1,
+        "% goal 1\nerror: error(instantiation_error,call/1).\n",
+    ),
+    (
+        "",
+        &[":- a"],
+        1,
+        "% goal 1\nerror: error(existence_error(procedure,(:-)/1),(:-)/1).\n",
+    ),
+    (
+        "",
+        &["?- a"],
+        1,
+        "% goal 1\nerror: error(existence_error(procedure,(?-)/1),(?-)/1).\n",
+    ),
+    (
+        "",
+        &["a :- b"],
+        1,
+        "% goal 1\nerror: error(existence_error(procedure,(:-)/2),(:-)/2).\n",
+    ),
+];
+
 // Values under the operators that there are from the start, worked out from the rules of the writer.
 const WRITTEN: [Row; 31] = [
     ("", &["X = 1 - (-1)"], 0, "% goal 1\nX = 1- -1.\n"),
@@ -283,7 +971,13 @@ const WRITTEN: [Row; 31] = [
 ];
 
 // Directives for operators.
-const OPERATORS: [Row; 16] = [
+const OPERATORS: [Row; 15] = [
+    (
+        ":- op(200, xfy, [f(zz(1,2))]).\n:- op(700, xfx, zz). a b.\n:- op(700, yfx, zz).\n",
+        &["true"],
+        3,
+        "% line 1: error: error(type_error(atom,f(1 zz 2)),op/3).\nerror: line 2: fault 7.\n",
+    ),
     (
         ":- op(700, xfx, ===>). a ===> b.\n",
         &["'===>'(a,X)"],
@@ -361,13 +1055,6 @@ const OPERATORS: [Row; 16] = [
         0,
         "% goal 1\nX = [++a,a+ (++)].\n",
     ),
-    (
-        ":- op(700, xfx).\n",
-        &["true"],
-        3,
-        "error: line 1: fault 7.\n",
-    ),
-    (":- a.\n", &["true"], 3, "error: line 1: fault 7.\n"),
     (
         "",
         &["op(700, xfx, eq)"],
@@ -452,6 +1139,11 @@ fn answers_the_faults(rt: HostRuntime) {
 }
 
 #[test]
+fn answers_the_directives(rt: HostRuntime) {
+    expect_rows(&rt, rt.alloc(), &DIRECTIVES);
+}
+
+#[test]
 fn answers_what_is_no_clause(rt: HostRuntime) {
     expect_rows(&rt, rt.alloc(), &NO_CLAUSES);
 }
@@ -459,6 +1151,21 @@ fn answers_what_is_no_clause(rt: HostRuntime) {
 #[test]
 fn answers_what_is_no_command(rt: HostRuntime) {
     expect_rows(&rt, rt.alloc(), &NO_COMMANDS);
+}
+
+#[test]
+fn answers_control(rt: HostRuntime) {
+    expect_rows(&rt, rt.alloc(), &CONTROL);
+}
+
+#[test]
+fn answers_control_cut_short(rt: HostRuntime) {
+    expect_rows(&rt, rt.alloc(), &CONTROL_CUT);
+}
+
+#[test]
+fn answers_what_is_raised(rt: HostRuntime) {
+    expect_rows(&rt, rt.alloc(), &RAISED);
 }
 
 #[test]
@@ -582,7 +1289,7 @@ const SMALL_WORDS: [WordsRow; 9] = [
     (
         1,
         (
-            "a.\n\nb.\n3.\n",
+            "a.\n\nb.\n3 4.\n",
             &["true"],
             3,
             "% line 1: error: error(resource_error(database),assertz/1).\n\
@@ -610,7 +1317,7 @@ const TWO_UPDATES: [Row; 4] = [
         "% line 2: error: error(resource_error(database),assertz/1).\n",
     ),
     (
-        "p(a).\np(b).\n3.\nq.\n",
+        "p(a).\np(b).\n3 4.\nq.\n",
         &["p(a)"],
         3,
         "% line 2: error: error(resource_error(database),assertz/1).\n\
@@ -754,7 +1461,7 @@ fn run_within<R: Wait, G: Gate>(
         Some(command) => command,
         None => return Err(Want),
     };
-    let load = load_text(rt, alloc, SIZES, b"p(a). p(a).")?;
+    let load = load_text(rt, alloc, gate, command.steps, SIZES, b"p(a). p(a).")?;
     let ran = run_command(rt, alloc, gate, command, load)?;
     output(alloc, &ran.ops, ran.runs.items())
 }

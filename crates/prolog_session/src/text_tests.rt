@@ -288,10 +288,34 @@ fn writes_answers(rt: HostRuntime) -> Result<(), Fail> {
 // The run of a read-term of the load in this line.
 fn load_run_of(alloc: Global, line: u64, ball: Term) -> Result<Run, Want> {
     let none: [bool; 0] = [];
-    let mut run = run_of(alloc, &none, RunEnd::Ball(ball))?;
+    Ok(in_load(run_of(alloc, &none, RunEnd::Ball(ball))?, line))
+}
+
+// The run as one of the load, in this line.
+fn in_load(run: Run, line: u64) -> Run {
+    let mut run = run;
     run.engine = 0;
     run.line = line;
-    Ok(run)
+    run
+}
+
+#[test]
+fn writes_no_success_of_the_load(rt: HostRuntime) -> Result<(), Fail> {
+    let alloc = rt.alloc();
+    let ops = Ops::initial(alloc)?;
+    let none: [bool; 0] = [];
+    let mut runs = Vec::new(alloc);
+    runs.push(in_load(run_of(alloc, &[false], RunEnd::Exhausted)?, 1))?;
+    runs.push(in_load(run_of(alloc, &none, RunEnd::Exhausted)?, 2))?;
+    runs.push(in_load(run_of(alloc, &[true], RunEnd::Exhausted)?, 3))?;
+    runs.push(in_load(run_of(alloc, &[true], RunEnd::Spent(7))?, 4))?;
+    runs.push(in_load(run_of(alloc, &none, RunEnd::Spent(8))?, 5))?;
+    let text = output(alloc, &ops, &runs)?;
+    let words = "% line 2: false.\n\
+        % line 4: stopped after 7 steps.\n\
+        % line 5: stopped after 8 steps.\n";
+    assert!(rt; text.as_slice() == words.as_bytes());
+    Ok(())
 }
 
 #[test]

@@ -1,5 +1,6 @@
 // What the program writes.
 ghost use Rattle.std.specs.Prelude.{◌≡◌, ◌≤◌, ◌++◌, List, filter, OnOk, IfOk, length};
+ghost use Rattle.std.specs.List.{list_any};
 ghost use Rattle.prolog_terms.specs.Tree.{Tree, HasArities};
 ghost use Rattle.prolog_terms.specs.Flat.{nodes as nodes_of};
 ghost use Rattle.prolog_writer.specs.Shapes.{is_cell};
@@ -7,7 +8,7 @@ ghost use Rattle.prolog_writer.specs.Pieces.{written};
 ghost use Rattle.prolog_writer.specs.declared.style.Style.TheVariants.{Quoted};
 ghost use Rattle.prolog_session.specs.Errors as errors;
 ghost use Rattle.prolog_session.specs.Cells.{at_cell};
-ghost use Rattle.prolog_session.specs.Output.{elements, value_text, further_text, values_text, event_text, events_text, closes, is_closed, end_text, is_of_load, is_of_goal, load_run_text, load_text, run_text, runs_text, output_of};
+ghost use Rattle.prolog_session.specs.Output.{elements, value_text, further_text, values_text, event_text, events_text, closes, is_closed, end_text, is_of_load, is_of_goal, is_answer, has_answered, load_run_text, load_text, run_text, runs_text, output_of};
 
 use crate::putting::{put, put_number};
 use crate::refusal::{Refusal, put_refusal};
@@ -211,10 +212,37 @@ fn is_of_load(run: &Run) -> bool
     run.engine == 0
 }
 
+fn is_answer(event: &Event) -> bool
+    ensures { result ≡ is_answer event.now }
+{
+    match event {
+        Event::Answer { .. } => true,
+    }
+}
+
+fn some_answer(events: &[Event]) -> bool
+    ensures { result ≡ list_any is_answer events.now }
+{
+    events.iter().any(|event| is_answer(event))
+}
+
+// Whether a run with these events and this end had an answer and no alternative is left.
+fn has_answered(events: &[Event], end: &RunEnd) -> bool
+    ensures { result ≡ has_answered events.now end.now }
+{
+    match end {
+        RunEnd::Exhausted => some_answer(events),
+        RunEnd::Ball(_) | RunEnd::Spent(_) | RunEnd::Want => false,
+    }
+}
+
 #[tactic(auto, unfolding(crate::specs::Output::load_run_text))]
 fn put_load_run(text: &mut Vec<u8>, alloc: Global, ops: &Ops, run: &Run) -> Result<(), Want>
     ensures { OnOk result (text.new.items ≡ text.old.items ++ load_run_text ops.now run.now) }
 {
+    if has_answered(run.transcript.items(), &run.end) {
+        return Ok(());
+    }
     put(text, "% line ")?;
     put_number(text, run.line.into())?;
     put(text, ": ")?;
@@ -264,7 +292,8 @@ pub fn refused_text(
     Ok(text)
 }
 
-/// The text of all runs under an operator table: for each of the load its line and its end, and then for each goal a heading with its number,
+/// The text of all runs under an operator table: for each of the load its line and its end, unless it had an answer and is
+/// exhausted, and then for each goal a heading with its number,
 /// counted from 1, a line for each answer with the values of the shown variables, and its end.
 #[tactic(auto, unfolding(crate::specs::Output::output_of))]
 pub fn output(alloc: Global, ops: &Ops, runs: &[Run]) -> Result<Vec<u8>, Want>

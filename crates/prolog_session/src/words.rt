@@ -3,13 +3,12 @@ ghost use Rattle.std.specs.Prelude.{◌≡◌, ◌≤◌, None, Some, IfOk, IfNo
 ghost use Rattle.prolog_terms.specs.Operators.{initial_operators};
 ghost use Rattle.prolog_reader.specs.Texts.{read_reading, HasItsVariables};
 ghost use Rattle.prolog_session.specs.Words as the_words;
-ghost use Rattle.prolog_session.specs.Words.{CanRun, IsReady};
+ghost use Rattle.prolog_session.specs.Words.{IsReady};
+ghost use Rattle.wam_machine.specs.Runs.{AreShown};
 
-use crate::reserved::is_directive;
-use prolog_clauses::can_be_body;
 use prolog_lexer::Lexer;
 use prolog_reader::{Read, ReadTerm, read_term};
-use prolog_terms::{Ops, Want, term_indicator};
+use prolog_terms::{Ops, Want};
 use std::alloc::Global;
 use wam_machine::Goal;
 
@@ -80,23 +79,16 @@ fn only_term(alloc: Global, ops: &Ops, text: &[u8]) -> Result<Option<ReadTerm>, 
     }
 }
 
-/// The goal that a term is, if it can be run.
-fn runnable(alloc: Global, read: ReadTerm) -> Result<Option<Goal>, Want>
+/// The goal that a read-term is.
+fn goal_of_term(read: ReadTerm) -> Goal
     requires { HasItsVariables (read_reading read) }
-    ensures goal { IfOk result (λ goal. goal ≡ the_words.goal_in (Some (read_reading read))) }
-    ensures runs { IfOk result (λ goal. IfSome goal CanRun) }
+    ensures goal { the_words.goal_in (Some (read_reading read)) ≡ Some result }
+    ensures shown { AreShown result }
 {
-    let indicator = match term_indicator(alloc, &read.term)? {
-        Some(indicator) => indicator,
-        None => return Ok(None),
-    };
-    if is_directive(&indicator) || !can_be_body(&read.term) {
-        return Ok(None);
-    }
-    Ok(Some(Goal {
+    Goal {
         term: read.term,
         shown: read.shown,
-    }))
+    }
 }
 
 /// The goal of a word.
@@ -104,15 +96,15 @@ fn runnable(alloc: Global, read: ReadTerm) -> Result<Option<Goal>, Want>
 fn goal(alloc: Global, ops: &Ops, word: &str) -> Result<Option<Goal>, Want>
     requires { ops.now ≡ initial_operators }
     ensures goal { IfOk result (λ goal. goal ≡ the_words.goal_of word.now) }
-    ensures runs { IfOk result (λ goal. IfSome goal CanRun) }
+    ensures shown { IfOk result (λ goal. IfSome goal AreShown) }
 {
     if let Some(read) = only_term(alloc, ops, word.as_bytes())? {
-        return runnable(alloc, read);
+        return Ok(Some(goal_of_term(read)));
     }
     let mut text = Vec::from_slice(alloc, word.as_bytes())?;
     text.extend_from_slice(b"\n.")?;
     match only_term(alloc, ops, &text)? {
-        Some(read) => runnable(alloc, read),
+        Some(read) => Ok(Some(goal_of_term(read))),
         None => Ok(None),
     }
 }

@@ -7,6 +7,7 @@
 mod bytes;
 mod entry;
 mod fault;
+mod law;
 mod name;
 mod names;
 mod node;
@@ -24,6 +25,7 @@ pub use entry::{
     term_indicator,
 };
 pub use fault::{Fault, fault_term};
+pub use law::bodies_are_bodies;
 pub use name::Name;
 pub use names::Names;
 pub use node::Node;

@@ -1,59 +1,70 @@
 -- Terms that are made one, and clauses that are entered.
-use Rattle.std.proofs.Common.{◌≡◌, ℕ, suc, ◌+◌, ◌≤◌, Bool, true, false, List, [], ◌∷◌, ◌++◌, Option, Some, None, refl, sym, ap, ap₂, ◌∙◌, arith, subst, if◌then◌else◌, ◌&&◌, ◌==◌, nat_lt, map, length}
+use Rattle.std.proofs.Common.{◌≡◌, ℕ, suc, ◌+◌, ◌≤◌, Bool, true, false, List, [], ◌∷◌, ◌++◌, Option, Some, None, refl, sym, ap, ap₂, ◌∙◌, arith, subst, if◌then◌else◌, ◌==◌, nat_lt, map, length}
 use Rattle.std.proofs.Math.Path.{fun_ext}
 use Rattle.std.specs.Prelude.{IsTrue, option_and_then, max}
 use Rattle.std.proofs.lemmas.Bool.{ltb-true, eqb-true}
 use Rattle.prolog_terms.specs.Tree.{Tree, Trees, variable, integer, atom, compound, none, more}
 use Rattle.prolog_terms.specs.Substitutions.{substituted, renamed, beyond, beyond_all}
 use Rattle.prolog_terms.specs.Variables.{met_after, all_met_after, AreNumbered}
-use Rattle.prolog_terms.specs.Clauses.{is_body, is_connective}
+use Rattle.prolog_terms.specs.Clauses.{is_body}
 use Rattle.term_store.specs.declared.cell.Cell.{Cell}
 use Rattle.term_store.specs.declared.cell.Trailed.{Trailed}
 use Rattle.term_store.specs.Shape.{Shape}
-use Rattle.term_store.specs.Terms.{raw, HasTerm, IsUnified, HaveNoUnifier}
+use Rattle.term_store.specs.Terms.{raw, term_of, meaning, HasTerm, IsUnified, HaveNoUnifier}
+use Rattle.term_store.proofs.Laws.{unified-term}
+use Rattle.term_unifier.proofs.Trees.{substituted-after}
 use Rattle.term_store.specs.Later.{IsLater, back, CanGoBack}
-use Rattle.term_unifier.specs.Unifier.{unifier, Unifies, IsMostGeneral}
+use Rattle.term_unifier.specs.Unifier.{Unifies, IsMostGeneral}
 use Rattle.term_unifier.proofs.Known.{known-some, known-none}
 use Rattle.wam_machine.specs.declared.terms.Terms.{Terms}
+use Rattle.wam_machine.specs.Machine.{Next, Do, next_under}
 use Rattle.wam_machine.specs.Terms.{Said, said, built, IsBuilt, IsGoal, AreTerms, IsSolved, AreEquated}
 use Rattle.wam_machine.specs.Control.{is_true_atom, body_goals}
-use Rattle.wam_machine.proofs.Grown.{Grows, back-later}
-use Rattle.wam_machine.proofs.Told.{said-later}
+use Rattle.wam_machine.proofs.Grown.{Grows, has_term-grown, meaning-grown, back-later}
+use Rattle.wam_machine.proofs.Heights.{unbound_same}
+use Rattle.wam_machine.proofs.WellMade.{is_body-substituted}
+use Rattle.wam_machine.proofs.Told.{StillGoals, said-under}
 
 -- ---- by a unifier
 
-module _ {C : Type 0} (goals : List Tree) (a b : Tree) (old new : Said C) where
-  pub equated-some : (m : ℕ → Tree) → IsMostGeneral m (substituted old.bindings a) (substituted old.bindings b)
-      → new ≡ record old { goals = goals ++ old.goals; bindings = λ v. substituted m (old.bindings v) } → AreEquated a b goals old new true
+module _ {C : Type 0} (goals : List Next) (a b : Tree) (old new : Said C) where
+  pub equated-some : (m : ℕ → Tree) → IsMostGeneral m a b
+      → new ≡ record old { goals = map (next_under m) (goals ++ old.goals); bindings = λ v. substituted m (old.bindings v) } → AreEquated a b goals old new true
   equated-some m h e = subst (IsSolved goals old new true) (sym (known-some _ _ m h)) (refl, e)
 
-  pub equated-none : ((r : ℕ → Tree) → ¬ Unifies r (substituted old.bindings a) (substituted old.bindings b)) → new ≡ old → AreEquated a b goals old new false
+  pub equated-none : ((r : ℕ → Tree) → ¬ Unifies r a b) → new ≡ old → AreEquated a b goals old new false
   equated-none h e = subst (IsSolved goals old new false) (sym (known-none _ _ h)) (refl, e)
 
--- goals that come before those that are still to be done
-solved-goals : {C : Type 0} (goals : List Tree) (old new next : Said C) → next ≡ record new { goals = goals ++ new.goals }
-    → (o : Option (ℕ → Tree)) → IsSolved [] old new true o → IsSolved goals old next true o
-solved-goals goals old new next e None h = absurd (cc (h.0))
-solved-goals {C} goals old new next e (Some m) h = (refl, e ∙ ap (λ (x : Said C). record x { goals = goals ++ x.goals }) h.1)
-
-pub equated-goals : {C : Type 0} (goals : List Tree) (a b : Tree) (old new next : Said C) → next ≡ record new { goals = goals ++ new.goals }
-    → AreEquated a b [] old new true → AreEquated a b goals old next true
-equated-goals goals a b old new next e h = solved-goals goals old new next e (unifier (substituted old.bindings a) (substituted old.bindings b)) h
+-- what may be done as a goal still may, whatever its variables stand for
+pub body-substituted : (s : ℕ → Tree) (t : Tree) → IsTrue (is_body t) → IsTrue (is_body (substituted s t))
+body-substituted s t h = is_body-substituted s t h
 
 -- ---- by a store
 
+-- what can be done still can, whatever is bound
+pub still-under : (texts wide : List (List ℕ)) (s u : Shape) → Grows texts wide s u → (m : ℕ → Tree) → ((c : Cell) → HasTerm (length texts) s c → term_of wide u c ≡ substituted m (term_of texts s c))
+    → StillGoals texts wide s u
+still-under texts wide s u g m e = record {
+  goal = λ c h. (has_term-grown texts wide s u g c h.0, subst (λ (x : Tree). IsTrue (is_body x)) (sym (e c h.0)) (body-substituted m (term_of texts s c) h.1));
+}
+
 pub equated-unified : {C : Type 0} (t : Terms C) (u : Shape) (a b : Cell) → AreTerms t → Grows t.names t.names t.store u
-    → u.variables ≡ t.store.variables → IsUnified t.names t.store u a b
+    → u.compounds ≡ t.store.compounds → u.variables ≡ t.store.variables → IsUnified t.names t.store u a b
     → AreEquated (built t a) (built t b) [] (said t) (said (record t { store = u })) true
 unfolding said built
-equated-unified {C} t u a b h g e (s, most, same) =
+equated-unified {C} t u a b h g rows e (s, most, same) =
     equated-some [] _ _ (said t) _ s most
-    (said-later t t.names u h g ∙ ap₂ (λ (m : ℕ → Tree) (n : ℕ). record (said t) { bindings = m; fresh = n }) (fun_ext same) e)
+    (said-under t t.names u h g s (λ c _. unified-term t.names t.store u a b c rows (s, most, same)) (λ v. substituted s (meaning t.names t.store v)) (fun_ext same)
+    ∙ ap (λ (n : ℕ). record (said t) { goals = map (next_under s) (said t).goals; bindings = λ v. substituted s (meaning t.names t.store v); fresh = n }) e)
 
-pub equated-refused : {C : Type 0} (goals : List Tree) (t : Terms C) (new : Said C) (a b : Cell) → HaveNoUnifier t.names t.store a b → new ≡ said t
+pub equated-refused : {C : Type 0} (goals : List Next) (t : Terms C) (new : Said C) (a b : Cell) → HaveNoUnifier t.names t.store a b → new ≡ said t
     → AreEquated (built t a) (built t b) goals (said t) new false
-unfolding said built
+unfolding built
 equated-refused goals t new a b h e = equated-none goals _ _ (said t) new h e
+
+pub still-unified : {C : Type 0} (t : Terms C) (u : Shape) (a b : Cell) → Grows t.names t.names t.store u
+    → u.compounds ≡ t.store.compounds → IsUnified t.names t.store u a b → StillGoals t.names t.names t.store u
+still-unified t u a b g rows e = still-under t.names t.names t.store u g e.0 (λ c _. unified-term t.names t.store u a b c rows e)
 
 -- back at a mark that was taken before the store grew
 pub undone : (m : Trailed) (s u : Shape) → CanGoBack m s → back m s ≡ s → IsLater s u → u.variables ≡ s.variables → back m u ≡ s
@@ -98,41 +109,39 @@ numbered-below head body vars e = go (met_after head 0) refl e
 
 -- ---- a clause's body
 
-connective-body : (b p q r s : Bool) → (IsTrue p → IsTrue r) → (IsTrue q → IsTrue s) → IsTrue (if b then p && q else true) → IsTrue (if b then r && s else true)
-connective-body false p q r s f g h = refl
-connective-body true false q r s f g h = absurd (cc h)
-connective-body true true q r s f g h = let a = f refl in let b = g h in rw (a, b) refl
-
--- what may be done as a goal still may, whatever its variables stand for
-pub body-substituted : (s : ℕ → Tree) (t : Tree) → IsTrue (is_body t) → IsTrue (is_body (substituted s t))
-body-substituted s (variable n) h = absurd (cc h)
-body-substituted s (integer z) h = absurd (cc h)
-body-substituted s (atom a) h = refl
-body-substituted s (compound f none) h = refl
-body-substituted s (compound f (more a none)) h = refl
-body-substituted s (compound f (more a (more b none))) h =
-    connective-body (is_connective f) (is_body a) (is_body b) (is_body (substituted s a)) (is_body (substituted s b)) (body-substituted s a) (body-substituted s b) h
-body-substituted s (compound f (more a (more b (more c ts)))) h = refl
-
--- ---- the body's goals
-
-pub body-IsGoal : {C : Type 0} (t : Terms C) (cell : Cell) (from : ℕ) (body : Tree) → HasTerm (length t.names) t.store cell
-    → raw t.names t.store cell ≡ renamed from body → IsTrue (is_body body) → IsGoal t cell
-unfolding built IsBuilt
-body-IsGoal t cell from body h e b = record {
-  built_is = h;
-  body = subst (λ (x : Tree). IsTrue (is_body x)) (sym e) (body-substituted (λ v. variable (from + v)) body b);
-}
-
-pub built-raw : {C : Type 0} (t : Terms C) (cell : Cell) → built t cell ≡ raw t.names t.store cell
-unfolding built
-built-raw t cell = refl
-
-body_goals-one : (body : Tree) → is_true_atom body ≡ false → body_goals body ≡ body ∷ []
+pub body_goals-one : (body : Tree) → is_true_atom body ≡ false → body_goals body ≡ body ∷ []
 body_goals-one body e = ap (λ (b : Bool). if b then [] else body ∷ []) e
 
-pub said-pushed : {C : Type 0} (old new next : Said C) (goal : Tree) (from : ℕ) (body : Tree) → is_true_atom body ≡ false → new ≡ old → goal ≡ renamed from body
-    → next ≡ record new { goals = goal ∷ new.goals } → next ≡ record old { goals = map (renamed from) (body_goals body) ++ old.goals }
-said-pushed {C} old new next goal from body f p q e =
-    e ∙ ap₂ (λ (x : Said C) (b : Tree). record x { goals = b ∷ x.goals }) p q
-    ∙ ap (λ (gs : List Tree). record old { goals = map (renamed from) gs ++ old.goals }) (sym (body_goals-one body f))
+-- goals whose variables are new ones, under a unifier
+pub new-under : (s b : ℕ → Tree) (from cut : ℕ) (gs : List Tree) → ((v : ℕ) → from ≤ v → b v ≡ variable v)
+    → map (λ (g : Tree). Do (substituted (λ v. substituted s (b v)) (renamed from g)) cut) gs ≡ map (next_under s) (map (λ (g : Tree). Do (renamed from g) cut) gs)
+new-under s b from cut [] free = refl
+new-under s b from cut (g ∷ gs) free =
+    ap₂ (λ (t : Tree) (ns : List Next). Do t cut ∷ ns)
+    (sym (substituted-after s b (renamed from g)) ∙ ap (substituted s) (unbound_same b from g free))
+    (new-under s b from cut gs free)
+
+-- ---- the body that is put
+
+pub body-is_goal : {C : Type 0} (t : Terms C) (cell : Cell) (from : ℕ) (body : Tree) → HasTerm (length t.names) t.store cell
+    → raw t.names t.store cell ≡ renamed from body → IsTrue (is_body body) → IsGoal t cell
+unfolding built IsBuilt
+body-is_goal t cell from body h e b = record {
+  built_is = h;
+  body = subst (λ (x : Tree). IsTrue (is_body (substituted (meaning t.names t.store) x))) (sym e)
+      (body-substituted (meaning t.names t.store) (renamed from body) (body-substituted (λ v. variable (from + v)) body b));
+}
+
+-- it stands for what it is under the bindings
+pub body-built : {C : Type 0} (t : Terms C) (wide : List (List ℕ)) (u : Shape) → AreTerms t → Grows t.names wide t.store u → u.bindings ≡ t.store.bindings
+    → (cell : Cell) (from : ℕ) (body : Tree) → raw wide u cell ≡ renamed from body
+    → built (record t { store = u; names = wide }) cell ≡ substituted (said t).bindings (renamed from body)
+unfolding said built
+body-built t wide u h g e cell from body r = ap₂ (λ (m : ℕ → Tree) (x : Tree). substituted m x) (meaning-grown t.names wide t.store u g e) r
+
+pub said-pushed : {C : Type 0} (old new next : Said C) (goal : Tree) (from cut : ℕ) (body : Tree) → is_true_atom body ≡ false → new ≡ old → goal ≡ substituted old.bindings (renamed from body)
+    → next ≡ record new { goals = Do goal cut ∷ new.goals }
+    → next ≡ record old { goals = map (λ (g : Tree). Do (substituted old.bindings (renamed from g)) cut) (body_goals body) ++ old.goals }
+said-pushed {C} old new next goal from cut body f p q e =
+    e ∙ ap₂ (λ (x : Said C) (b : Tree). record x { goals = Do b cut ∷ x.goals }) p q
+    ∙ ap (λ (gs : List Tree). record old { goals = map (λ (g : Tree). Do (substituted old.bindings (renamed from g)) cut) gs ++ old.goals }) (sym (body_goals-one body f))

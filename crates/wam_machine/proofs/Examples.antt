@@ -1,17 +1,17 @@
 -- The rows, computed.
 use Rattle.std.proofs.Common.{◌≡◌, ℕ, List, ◌∷◌, zero, suc, refl, [], subst, Option, Some, None, ◌∙◌, ap}
 use Rattle.prolog_terms.specs.Faults.{error_tree, fault_tree}
-use Rattle.prolog_terms.specs.Tree.{Tree, variable, atom}
+use Rattle.prolog_terms.specs.Tree.{Tree, variable, atom, compound}
 use Rattle.journal_base.specs.Journal.{Journal}
 use Rattle.wam_machine.specs.declared.run.Event.{Event}
 use Rattle.wam_machine.specs.declared.run.RunEnd.{RunEnd}
 use Rattle.wam_machine.specs.declared.run.RunEnd.TheVariants.{Exhausted, Ball, Spent}
-use Rattle.prolog_terms.specs.declared.fault.Fault.TheVariants.{Existence}
+use Rattle.prolog_terms.specs.declared.fault.Fault.TheVariants.{Existence, Instantiation, Representation}
 use Rattle.std.specs.Prelude.{codes}
 use Rattle.term_unifier.specs.Unifier.{unifier}
 use Rattle.journal_base.specs.Keys.{keys, could_match}
 use Rattle.wam_machine.specs.Machine.{Setting, State, Report, Outcome, Goes, Ends, Unfit, Runs, ends, goes, move, beginning, Transcript}
-use Rattle.wam_machine.specs.Rows.{Gives, HasRows, on, a, b, c, x, truth, one, two, p, closed, opened, three_facts, a_rule, a_loop, any_between}
+use Rattle.wam_machine.specs.Rows.{Gives, Alone, HasRows, a, a_cut, a_loop, a_rule, any_between, b, both, c, call, called, closed, copied_number, copies, cut, denied, equal, failure, is_free, is_one, is_two, list_of, mem, members, number, on, once, one, one_and_more, one_or_two, one_pair, opened, or, p, repeats, then, three_facts, trees, truth, uncallable, x}
 
 -- what a run gives within so many moves
 abbrev run_within : ℕ → Setting → State → Option Report
@@ -50,16 +50,336 @@ gives n j budget goal shown fronts events steps end h =
     gives_so j budget goal shown fronts events steps end (run_within n (on j budget shown) (beginning (on j budget shown) goal fronts))
     (λ r e. within (on j budget shown) n (beginning (on j budget shown) goal fronts) r e) h
 
-pub has_rows : HasRows
+row_true_goal : Gives [] 100 truth [] [] (closed [] ∷ []) 1 Exhausted
 unfolding unifier keys could_match error_tree fault_tree
+row_true_goal = gives 60 [] 100 truth [] [] (closed [] ∷ []) 1 Exhausted refl
+
+row_each_fact : Gives three_facts 100 (p x) (x ∷ []) (4 ∷ []) (opened (a ∷ []) ∷ opened (b ∷ []) ∷ closed (c ∷ []) ∷ []) 3 Exhausted
+unfolding unifier keys could_match error_tree fault_tree
+row_each_fact = gives 60 three_facts 100 (p x) (x ∷ []) (4 ∷ []) (opened (a ∷ []) ∷ opened (b ∷ []) ∷ closed (c ∷ []) ∷ []) 3 Exhausted refl
+
+row_one_fact : Gives three_facts 100 (p b) [] (4 ∷ []) (closed [] ∷ []) 1 Exhausted
+unfolding unifier keys could_match error_tree fault_tree
+row_one_fact = gives 60 three_facts 100 (p b) [] (4 ∷ []) (closed [] ∷ []) 1 Exhausted refl
+
+row_middle : Gives any_between 100 (one (codes "q") b) [] (4 ∷ []) (opened [] ∷ closed [] ∷ []) 2 Exhausted
+unfolding unifier keys could_match error_tree fault_tree
+row_middle = gives 60 any_between 100 (one (codes "q") b) [] (4 ∷ []) (opened [] ∷ closed [] ∷ []) 2 Exhausted refl
+
+row_through_a_rule : Gives a_rule 100 (one (codes "g") x) (x ∷ []) (5 ∷ 5 ∷ []) (closed (b ∷ []) ∷ []) 5 Exhausted
+unfolding unifier keys could_match error_tree fault_tree
+row_through_a_rule = gives 60 a_rule 100 (one (codes "g") x) (x ∷ []) (5 ∷ 5 ∷ []) (closed (b ∷ []) ∷ []) 5 Exhausted refl
+
+row_budget_spent : Gives a_loop 10 (atom (codes "loop")) [] (copied_number 10 2) [] 10 (Spent 10)
+unfolding unifier keys could_match error_tree fault_tree
+row_budget_spent = gives 60 a_loop 10 (atom (codes "loop")) [] (copied_number 10 2) [] 10 (Spent 10) refl
+
+row_occurring : Alone (equal x (one (codes "f") x)) [] 1 Exhausted
+unfolding unifier keys could_match error_tree fault_tree
+row_occurring = gives 60 [] 100 (equal x (one (codes "f") x)) (x ∷ []) [] [] 1 Exhausted refl
+
+row_two_free : Gives [] 100 (equal (variable 7) (variable 3)) (variable 7 ∷ variable 3 ∷ []) [] (closed (variable 0 ∷ variable 0 ∷ []) ∷ []) 1 Exhausted
+unfolding unifier keys could_match error_tree fault_tree
+row_two_free = gives 60 [] 100 (equal (variable 7) (variable 3)) (variable 7 ∷ variable 3 ∷ []) [] (closed (variable 0 ∷ variable 0 ∷ []) ∷ []) 1 Exhausted refl
+
+row_undeclared : Gives [] 100 (one (codes "foo") a) [] (0 ∷ []) [] 1 (Ball (fault_tree (Existence (record { name = codes "foo"; arity = 1 })) (record { name = codes "foo"; arity = 1 })))
+unfolding unifier keys could_match error_tree fault_tree
+row_undeclared = gives 60 [] 100 (one (codes "foo") a) [] (0 ∷ []) [] 1 (Ball (fault_tree (Existence (record { name = codes "foo"; arity = 1 })) (record { name = codes "foo"; arity = 1 }))) refl
+
+row_alternatives : Alone one_or_two (one_and_more ∷ is_two ∷ []) 4 Exhausted
+unfolding unifier keys could_match error_tree fault_tree
+row_alternatives = gives 60 [] 100 one_or_two (x ∷ []) [] (one_and_more ∷ is_two ∷ []) 4 Exhausted refl
+
+row_failing : Alone failure [] 1 Exhausted
+unfolding unifier keys could_match error_tree fault_tree
+row_failing = gives 60 [] 100 failure (x ∷ []) [] [] 1 Exhausted refl
+
+row_cut_after : Alone (both one_or_two cut) (is_one ∷ []) 3 Exhausted
+unfolding unifier keys could_match error_tree fault_tree
+row_cut_after = gives 60 [] 100 (both one_or_two cut) (x ∷ []) [] (is_one ∷ []) 3 Exhausted refl
+
+row_cut_after_exactly : Gives [] 3 (both one_or_two cut) (x ∷ []) [] (is_one ∷ []) 3 Exhausted
+unfolding unifier keys could_match error_tree fault_tree
+row_cut_after_exactly = gives 60 [] 3 (both one_or_two cut) (x ∷ []) [] (is_one ∷ []) 3 Exhausted refl
+
+row_cut_after_spent : Gives [] 2 (both one_or_two cut) (x ∷ []) [] [] 2 (Spent 2)
+unfolding unifier keys could_match error_tree fault_tree
+row_cut_after_spent = gives 60 [] 2 (both one_or_two cut) (x ∷ []) [] [] 2 (Spent 2) refl
+
+row_cut_left : Alone (both one_or_two (or cut truth)) (is_one ∷ []) 4 Exhausted
+unfolding unifier keys could_match error_tree fault_tree
+row_cut_left = gives 60 [] 100 (both one_or_two (or cut truth)) (x ∷ []) [] (is_one ∷ []) 4 Exhausted refl
+
+row_cut_right : Alone (both one_or_two (or failure cut)) (is_one ∷ []) 6 Exhausted
+unfolding unifier keys could_match error_tree fault_tree
+row_cut_right = gives 60 [] 100 (both one_or_two (or failure cut)) (x ∷ []) [] (is_one ∷ []) 6 Exhausted refl
+
+row_cut_in_clause : Gives a_cut 100 (one (codes "c") x) (x ∷ []) (7 ∷ 7 ∷ []) (closed (a ∷ []) ∷ []) 3 Exhausted
+unfolding unifier keys could_match error_tree fault_tree
+row_cut_in_clause = gives 60 a_cut 100 (one (codes "c") x) (x ∷ []) (7 ∷ 7 ∷ []) (closed (a ∷ []) ∷ []) 3 Exhausted refl
+
+row_cut_outside : Gives a_cut 100 (both one_or_two (one (codes "c") a)) (x ∷ []) (7 ∷ 7 ∷ 7 ∷ 7 ∷ []) (one_and_more ∷ is_two ∷ []) 10 Exhausted
+unfolding unifier keys could_match error_tree fault_tree
+row_cut_outside = gives 60 a_cut 100 (both one_or_two (one (codes "c") a)) (x ∷ []) (7 ∷ 7 ∷ 7 ∷ 7 ∷ []) (one_and_more ∷ is_two ∷ []) 10 Exhausted refl
+
+row_cut_in_call : Alone (both one_or_two (call (cut ∷ []))) (one_and_more ∷ is_two ∷ []) 8 Exhausted
+unfolding unifier keys could_match error_tree fault_tree
+row_cut_in_call = gives 60 [] 100 (both one_or_two (call (cut ∷ []))) (x ∷ []) [] (one_and_more ∷ is_two ∷ []) 8 Exhausted refl
+
+row_cut_in_called : Alone (call (or (both cut failure) truth ∷ [])) [] 4 Exhausted
+unfolding unifier keys could_match error_tree fault_tree
+row_cut_in_called = gives 60 [] 100 (call (or (both cut failure) truth ∷ [])) (x ∷ []) [] [] 4 Exhausted refl
+
+row_added_to_atom : Gives one_pair 100 (call (atom (codes "f") ∷ x ∷ variable 1 ∷ [])) (x ∷ variable 1 ∷ []) (2 ∷ []) (closed (a ∷ b ∷ []) ∷ []) 2 Exhausted
+unfolding unifier keys could_match error_tree fault_tree
+row_added_to_atom = gives 60 one_pair 100 (call (atom (codes "f") ∷ x ∷ variable 1 ∷ [])) (x ∷ variable 1 ∷ []) (2 ∷ []) (closed (a ∷ b ∷ []) ∷ []) 2 Exhausted refl
+
+row_added_to_compound : Gives one_pair 100 (call (one (codes "f") x ∷ variable 1 ∷ [])) (x ∷ variable 1 ∷ []) (2 ∷ []) (closed (a ∷ b ∷ []) ∷ []) 2 Exhausted
+unfolding unifier keys could_match error_tree fault_tree
+row_added_to_compound = gives 60 one_pair 100 (call (one (codes "f") x ∷ variable 1 ∷ [])) (x ∷ variable 1 ∷ []) (2 ∷ []) (closed (a ∷ b ∷ []) ∷ []) 2 Exhausted refl
+
+row_added_to_control : Alone (call (atom (codes ",") ∷ truth ∷ equal x (number 1) ∷ [])) (is_one ∷ []) 3 Exhausted
+unfolding unifier keys could_match error_tree fault_tree
+row_added_to_control = gives 60 [] 100 (call (atom (codes ",") ∷ truth ∷ equal x (number 1) ∷ [])) (x ∷ []) [] (is_one ∷ []) 3 Exhausted refl
+
+row_added_to_conjunction : Gives [] 100 (call (both a b ∷ c ∷ [])) [] (0 ∷ []) [] 2 (Ball (fault_tree (Existence (record { name = codes ","; arity = 3 })) (record { name = codes ","; arity = 3 })))
+unfolding unifier keys could_match error_tree fault_tree
+row_added_to_conjunction = gives 60 [] 100 (call (both a b ∷ c ∷ [])) [] (0 ∷ []) [] 2 (Ball (fault_tree (Existence (record { name = codes ","; arity = 3 })) (record { name = codes ","; arity = 3 }))) refl
+
+row_call_of_eight : Gives [] 100 (call (a ∷ copies 7 b)) [] (0 ∷ []) [] 2 (Ball (fault_tree (Existence (record { name = codes "a"; arity = 7 })) (record { name = codes "a"; arity = 7 })))
+unfolding unifier keys could_match error_tree fault_tree
+row_call_of_eight = gives 60 [] 100 (call (a ∷ copies 7 b)) [] (0 ∷ []) [] 2 (Ball (fault_tree (Existence (record { name = codes "a"; arity = 7 })) (record { name = codes "a"; arity = 7 }))) refl
+
+row_call_of_nine : Gives [] 100 (call (a ∷ copies 8 b)) [] (0 ∷ []) [] 1 (Ball (fault_tree (Existence (called 9)) (called 9)))
+unfolding unifier keys could_match error_tree fault_tree
+row_call_of_nine = gives 60 [] 100 (call (a ∷ copies 8 b)) [] (0 ∷ []) [] 1 (Ball (fault_tree (Existence (called 9)) (called 9))) refl
+
+row_called_later : Alone (call (both (equal x truth) x ∷ [])) (closed (truth ∷ []) ∷ []) 4 Exhausted
+unfolding unifier keys could_match error_tree fault_tree
+row_called_later = gives 60 [] 100 (call (both (equal x truth) x ∷ [])) (x ∷ []) [] (closed (truth ∷ []) ∷ []) 4 Exhausted refl
+
+row_called_now : Gives [] 100 (both (equal x cut) (call (or x truth ∷ []))) [] [] (closed [] ∷ []) 4 Exhausted
+unfolding unifier keys could_match error_tree fault_tree
+row_called_now = gives 60 [] 100 (both (equal x cut) (call (or x truth ∷ []))) [] [] (closed [] ∷ []) 4 Exhausted refl
+
+row_unbound : Alone x [] 1 (Ball (fault_tree Instantiation (called 1)))
+unfolding unifier keys could_match error_tree fault_tree
+row_unbound = gives 60 [] 100 x (x ∷ []) [] [] 1 (Ball (fault_tree Instantiation (called 1))) refl
+
+row_integer_goal : Alone (number 1) [] 1 (uncallable (number 1) (called 1))
+unfolding unifier keys could_match error_tree fault_tree
+row_integer_goal = gives 60 [] 100 (number 1) (x ∷ []) [] [] 1 (uncallable (number 1) (called 1)) refl
+
+row_integer_in_body : Alone (call (both (atom (codes "foo")) (number 1) ∷ [])) [] 1 (uncallable (both (atom (codes "foo")) (number 1)) (called 1))
+unfolding unifier keys could_match error_tree fault_tree
+row_integer_in_body = gives 60 [] 100 (call (both (atom (codes "foo")) (number 1) ∷ [])) (x ∷ []) [] [] 1 (uncallable (both (atom (codes "foo")) (number 1)) (called 1)) refl
+
+row_free_culprit : Alone (call (both (variable 5) (number 1) ∷ [])) [] 1 (uncallable (both x (number 1)) (called 1))
+unfolding unifier keys could_match error_tree fault_tree
+row_free_culprit = gives 60 [] 100 (call (both (variable 5) (number 1) ∷ [])) (x ∷ []) [] [] 1 (uncallable (both x (number 1)) (called 1)) refl
+
+row_added_to_integer : Alone (call (number 1 ∷ a ∷ [])) [] 1 (uncallable (number 1) (called 2))
+unfolding unifier keys could_match error_tree fault_tree
+row_added_to_integer = gives 60 [] 100 (call (number 1 ∷ a ∷ [])) (x ∷ []) [] [] 1 (uncallable (number 1) (called 2)) refl
+
+row_added_to_unbound : Alone (call (x ∷ a ∷ [])) [] 1 (Ball (fault_tree Instantiation (called 2)))
+unfolding unifier keys could_match error_tree fault_tree
+row_added_to_unbound = gives 60 [] 100 (call (x ∷ a ∷ [])) (x ∷ []) [] [] 1 (Ball (fault_tree Instantiation (called 2))) refl
+
+row_added_to_either : Gives [] 100 (call (or failure (number 1) ∷ a ∷ [])) [] (0 ∷ []) [] 2 (Ball (fault_tree (Existence (record { name = codes ";"; arity = 3 })) (record { name = codes ";"; arity = 3 })))
+unfolding unifier keys could_match error_tree fault_tree
+row_added_to_either = gives 60 [] 100 (call (or failure (number 1) ∷ a ∷ [])) [] (0 ∷ []) [] 2 (Ball (fault_tree (Existence (record { name = codes ";"; arity = 3 })) (record { name = codes ";"; arity = 3 }))) refl
+
+row_added_makes_no_body : Alone (call (one (codes ";") failure ∷ number 1 ∷ [])) [] 1 (uncallable (or failure (number 1)) (called 2))
+unfolding unifier keys could_match error_tree fault_tree
+row_added_makes_no_body = gives 60 [] 100 (call (one (codes ";") failure ∷ number 1 ∷ [])) (x ∷ []) [] [] 1 (uncallable (or failure (number 1)) (called 2)) refl
+
+row_too_many : Alone (call (compound (codes "f") (trees (copies 255 a)) ∷ a ∷ [])) [] 1 (Ball (fault_tree (Representation (codes "max_arity")) (called 2)))
+unfolding unifier keys could_match error_tree fault_tree
+row_too_many = gives 60 [] 100 (call (compound (codes "f") (trees (copies 255 a)) ∷ a ∷ [])) (x ∷ []) [] [] 1 (Ball (fault_tree (Representation (codes "max_arity")) (called 2))) refl
+
+row_denied_integer : Alone (denied (number 1)) [] 1 (uncallable (number 1) (record { name = codes "\\+"; arity = 1 }))
+unfolding unifier keys could_match error_tree fault_tree
+row_denied_integer = gives 60 [] 100 (denied (number 1)) (x ∷ []) [] [] 1 (uncallable (number 1) (record { name = codes "\\+"; arity = 1 })) refl
+
+row_denied_unbound : Alone (denied x) [] 2 (Ball (fault_tree Instantiation (called 1)))
+unfolding unifier keys could_match error_tree fault_tree
+row_denied_unbound = gives 60 [] 100 (denied x) (x ∷ []) [] [] 2 (Ball (fault_tree Instantiation (called 1))) refl
+
+row_denied_equal : Alone (denied (equal x (number 1))) [] 2 Exhausted
+unfolding unifier keys could_match error_tree fault_tree
+row_denied_equal = gives 60 [] 100 (denied (equal x (number 1))) (x ∷ []) [] [] 2 Exhausted refl
+
+row_denied_fail : Alone (denied failure) (is_free ∷ []) 2 Exhausted
+unfolding unifier keys could_match error_tree fault_tree
+row_denied_fail = gives 60 [] 100 (denied failure) (x ∷ []) [] (is_free ∷ []) 2 Exhausted refl
+
+row_denied_twice : Alone (denied (denied (equal x a))) (is_free ∷ []) 3 Exhausted
+unfolding unifier keys could_match error_tree fault_tree
+row_denied_twice = gives 60 [] 100 (denied (denied (equal x a))) (x ∷ []) [] (is_free ∷ []) 3 Exhausted refl
+
+row_denied_alternatives : Alone (denied (denied one_or_two)) (is_free ∷ []) 4 Exhausted
+unfolding unifier keys could_match error_tree fault_tree
+row_denied_alternatives = gives 60 [] 100 (denied (denied one_or_two)) (x ∷ []) [] (is_free ∷ []) 4 Exhausted refl
+
+row_cut_in_denied : Alone (both one_or_two (denied (both cut failure))) (one_and_more ∷ is_two ∷ []) 10 Exhausted
+unfolding unifier keys could_match error_tree fault_tree
+row_cut_in_denied = gives 60 [] 100 (both one_or_two (denied (both cut failure))) (x ∷ []) [] (one_and_more ∷ is_two ∷ []) 10 Exhausted refl
+
+row_denied_closed : Alone (both (denied failure) one_or_two) (one_and_more ∷ is_two ∷ []) 6 Exhausted
+unfolding unifier keys could_match error_tree fault_tree
+row_denied_closed = gives 60 [] 100 (both (denied failure) one_or_two) (x ∷ []) [] (one_and_more ∷ is_two ∷ []) 6 Exhausted refl
+
+row_else_taken : Alone (or (then failure truth) (equal x (number 2))) (is_two ∷ []) 4 Exhausted
+unfolding unifier keys could_match error_tree fault_tree
+row_else_taken = gives 60 [] 100 (or (then failure truth) (equal x (number 2))) (x ∷ []) [] (is_two ∷ []) 4 Exhausted refl
+
+row_else_gone : Alone (or (then truth (equal x (number 1))) (equal x (number 2))) (is_one ∷ []) 3 Exhausted
+unfolding unifier keys could_match error_tree fault_tree
+row_else_gone = gives 60 [] 100 (or (then truth (equal x (number 1))) (equal x (number 2))) (x ∷ []) [] (is_one ∷ []) 3 Exhausted refl
+
+row_then_fails : Alone (or (then truth failure) (equal x (number 2))) [] 3 Exhausted
+unfolding unifier keys could_match error_tree fault_tree
+row_then_fails = gives 60 [] 100 (or (then truth failure) (equal x (number 2))) (x ∷ []) [] [] 3 Exhausted refl
+
+row_then_alone : Alone (then truth (equal x (number 1))) (is_one ∷ []) 3 Exhausted
+unfolding unifier keys could_match error_tree fault_tree
+row_then_alone = gives 60 [] 100 (then truth (equal x (number 1))) (x ∷ []) [] (is_one ∷ []) 3 Exhausted refl
+
+row_condition_fails : Alone (then failure truth) [] 2 Exhausted
+unfolding unifier keys could_match error_tree fault_tree
+row_condition_fails = gives 60 [] 100 (then failure truth) (x ∷ []) [] [] 2 Exhausted refl
+
+row_first_answer : Alone (then one_or_two truth) (is_one ∷ []) 4 Exhausted
+unfolding unifier keys could_match error_tree fault_tree
+row_first_answer = gives 60 [] 100 (then one_or_two truth) (x ∷ []) [] (is_one ∷ []) 4 Exhausted refl
+
+row_first_answer_of_two : Alone (or (then one_or_two truth) truth) (is_one ∷ []) 4 Exhausted
+unfolding unifier keys could_match error_tree fault_tree
+row_first_answer_of_two = gives 60 [] 100 (or (then one_or_two truth) truth) (x ∷ []) [] (is_one ∷ []) 4 Exhausted refl
+
+row_then_left_open : Alone (then truth one_or_two) (one_and_more ∷ is_two ∷ []) 6 Exhausted
+unfolding unifier keys could_match error_tree fault_tree
+row_then_left_open = gives 60 [] 100 (then truth one_or_two) (x ∷ []) [] (one_and_more ∷ is_two ∷ []) 6 Exhausted refl
+
+row_bound_condition : Gives [] 100 (both (equal x (then failure truth)) (call (or x truth ∷ []))) [] [] (closed [] ∷ []) 6 Exhausted
+unfolding unifier keys could_match error_tree fault_tree
+row_bound_condition = gives 60 [] 100 (both (equal x (then failure truth)) (call (or x truth ∷ []))) [] [] (closed [] ∷ []) 6 Exhausted refl
+
+row_cut_in_condition : Alone (both one_or_two (or (then cut truth) failure)) (one_and_more ∷ is_two ∷ []) 10 Exhausted
+unfolding unifier keys could_match error_tree fault_tree
+row_cut_in_condition = gives 60 [] 100 (both one_or_two (or (then cut truth) failure)) (x ∷ []) [] (one_and_more ∷ is_two ∷ []) 10 Exhausted refl
+
+row_cut_in_failing_condition : Alone (or (then (both cut failure) truth) (equal x (number 2))) (is_two ∷ []) 5 Exhausted
+unfolding unifier keys could_match error_tree fault_tree
+row_cut_in_failing_condition = gives 60 [] 100 (or (then (both cut failure) truth) (equal x (number 2))) (x ∷ []) [] (is_two ∷ []) 5 Exhausted refl
+
+row_cut_in_then : Alone (both one_or_two (or (then truth cut) failure)) (is_one ∷ []) 5 Exhausted
+unfolding unifier keys could_match error_tree fault_tree
+row_cut_in_then = gives 60 [] 100 (both one_or_two (or (then truth cut) failure)) (x ∷ []) [] (is_one ∷ []) 5 Exhausted refl
+
+row_cut_in_else : Alone (both one_or_two (or (then failure truth) cut)) (is_one ∷ []) 6 Exhausted
+unfolding unifier keys could_match error_tree fault_tree
+row_cut_in_else = gives 60 [] 100 (both one_or_two (or (then failure truth) cut)) (x ∷ []) [] (is_one ∷ []) 6 Exhausted refl
+
+row_nested : Alone (or (then (or (then truth failure) truth) (equal x (number 1))) (equal x (number 2))) (is_two ∷ []) 6 Exhausted
+unfolding unifier keys could_match error_tree fault_tree
+row_nested = gives 60 [] 100 (or (then (or (then truth failure) truth) (equal x (number 1))) (equal x (number 2))) (x ∷ []) [] (is_two ∷ []) 6 Exhausted refl
+
+row_once_of_two : Alone (once one_or_two) (is_one ∷ []) 6 Exhausted
+unfolding unifier keys could_match error_tree fault_tree
+row_once_of_two = gives 60 [] 100 (once one_or_two) (x ∷ []) [] (is_one ∷ []) 6 Exhausted refl
+
+row_once_repeat : Alone (once repeats) (is_free ∷ []) 5 Exhausted
+unfolding unifier keys could_match error_tree fault_tree
+row_once_repeat = gives 60 [] 100 (once repeats) (x ∷ []) [] (is_free ∷ []) 5 Exhausted refl
+
+row_once_member : Gives members 100 (once (mem x (list_of (a ∷ b ∷ [])))) (x ∷ []) (3 ∷ []) (closed (a ∷ []) ∷ []) 5 Exhausted
+unfolding unifier keys could_match error_tree fault_tree
+row_once_member = gives 60 members 100 (once (mem x (list_of (a ∷ b ∷ [])))) (x ∷ []) (3 ∷ []) (closed (a ∷ []) ∷ []) 5 Exhausted refl
+
+row_once_integer : Alone (once (number 1)) [] 3 (uncallable (number 1) (called 1))
+unfolding unifier keys could_match error_tree fault_tree
+row_once_integer = gives 60 [] 100 (once (number 1)) (x ∷ []) [] [] 3 (uncallable (number 1) (called 1)) refl
+
+row_cut_after_repeat : Alone (both repeats cut) (is_free ∷ []) 2 Exhausted
+unfolding unifier keys could_match error_tree fault_tree
+row_cut_after_repeat = gives 60 [] 100 (both repeats cut) (x ∷ []) [] (is_free ∷ []) 2 Exhausted refl
+
+row_repeat_spent : Gives [] 10 (both repeats failure) [] [] [] 10 (Spent 10)
+unfolding unifier keys could_match error_tree fault_tree
+row_repeat_spent = gives 60 [] 10 (both repeats failure) [] [] [] 10 (Spent 10) refl
+
+row_repeat_answers : Gives [] 3 repeats [] [] (opened [] ∷ opened [] ∷ opened [] ∷ []) 3 (Spent 3)
+unfolding unifier keys could_match error_tree fault_tree
+row_repeat_answers = gives 60 [] 3 repeats [] [] (opened [] ∷ opened [] ∷ opened [] ∷ []) 3 (Spent 3) refl
+
+pub has_rows : HasRows
 has_rows = record {
-  true_goal = gives 20 [] 100 truth [] [] (closed [] ∷ []) 1 Exhausted refl;
-  each_fact = gives 20 three_facts 100 (p x) (x ∷ []) (4 ∷ []) (opened (a ∷ []) ∷ opened (b ∷ []) ∷ closed (c ∷ []) ∷ []) 3 Exhausted refl;
-  one_fact = gives 20 three_facts 100 (p b) [] (4 ∷ []) (closed [] ∷ []) 1 Exhausted refl;
-  middle = gives 20 any_between 100 (one (codes "q") b) [] (4 ∷ []) (opened [] ∷ closed [] ∷ []) 2 Exhausted refl;
-  through_a_rule = gives 20 a_rule 100 (one (codes "g") x) (x ∷ []) (5 ∷ 5 ∷ []) (closed (b ∷ []) ∷ []) 5 Exhausted refl;
-  budget_spent = gives 20 a_loop 10 (atom (codes "loop")) [] (2 ∷ 2 ∷ 2 ∷ 2 ∷ 2 ∷ 2 ∷ 2 ∷ 2 ∷ 2 ∷ 2 ∷ []) [] 10 (Spent 10) refl;
-  occurring = gives 20 [] 100 (two (codes "=") x (one (codes "f") x)) (x ∷ []) [] [] 1 Exhausted refl;
-  two_free = gives 20 [] 100 (two (codes "=") (variable 7) (variable 3)) (variable 7 ∷ variable 3 ∷ []) [] (closed (variable 0 ∷ variable 0 ∷ []) ∷ []) 1 Exhausted refl;
-  undeclared = gives 20 [] 100 (one (codes "foo") a) [] (0 ∷ []) [] 1 (Ball (fault_tree (Existence (record { name = codes "foo"; arity = 1 })) (record { name = codes "foo"; arity = 1 }))) refl;
+  true_goal = row_true_goal;
+  each_fact = row_each_fact;
+  one_fact = row_one_fact;
+  middle = row_middle;
+  through_a_rule = row_through_a_rule;
+  budget_spent = row_budget_spent;
+  occurring = row_occurring;
+  two_free = row_two_free;
+  undeclared = row_undeclared;
+  alternatives = row_alternatives;
+  failing = row_failing;
+  cut_after = row_cut_after;
+  cut_after_exactly = row_cut_after_exactly;
+  cut_after_spent = row_cut_after_spent;
+  cut_left = row_cut_left;
+  cut_right = row_cut_right;
+  cut_in_clause = row_cut_in_clause;
+  cut_outside = row_cut_outside;
+  cut_in_call = row_cut_in_call;
+  cut_in_called = row_cut_in_called;
+  added_to_atom = row_added_to_atom;
+  added_to_compound = row_added_to_compound;
+  added_to_control = row_added_to_control;
+  added_to_conjunction = row_added_to_conjunction;
+  call_of_eight = row_call_of_eight;
+  call_of_nine = row_call_of_nine;
+  called_later = row_called_later;
+  called_now = row_called_now;
+  unbound = row_unbound;
+  integer_goal = row_integer_goal;
+  integer_in_body = row_integer_in_body;
+  free_culprit = row_free_culprit;
+  added_to_integer = row_added_to_integer;
+  added_to_unbound = row_added_to_unbound;
+  added_to_either = row_added_to_either;
+  added_makes_no_body = row_added_makes_no_body;
+  too_many = row_too_many;
+  denied_integer = row_denied_integer;
+  denied_unbound = row_denied_unbound;
+  denied_equal = row_denied_equal;
+  denied_fail = row_denied_fail;
+  denied_twice = row_denied_twice;
+  denied_alternatives = row_denied_alternatives;
+  cut_in_denied = row_cut_in_denied;
+  denied_closed = row_denied_closed;
+  else_taken = row_else_taken;
+  else_gone = row_else_gone;
+  then_fails = row_then_fails;
+  then_alone = row_then_alone;
+  condition_fails = row_condition_fails;
+  first_answer = row_first_answer;
+  first_answer_of_two = row_first_answer_of_two;
+  then_left_open = row_then_left_open;
+  bound_condition = row_bound_condition;
+  cut_in_condition = row_cut_in_condition;
+  cut_in_failing_condition = row_cut_in_failing_condition;
+  cut_in_then = row_cut_in_then;
+  cut_in_else = row_cut_in_else;
+  nested = row_nested;
+  once_of_two = row_once_of_two;
+  once_repeat = row_once_repeat;
+  once_member = row_once_member;
+  once_integer = row_once_integer;
+  cut_after_repeat = row_cut_after_repeat;
+  repeat_spent = row_repeat_spent;
+  repeat_answers = row_repeat_answers;
 }

@@ -6,7 +6,8 @@ use Rattle.prolog_terms.specs.Tree.{Tree}
 use Rattle.term_store.specs.Shape.{Shape}
 use Rattle.term_store.specs.declared.cell.Cell.{Cell}
 use Rattle.wam_machine.specs.declared.terms.Frame.{Frame}
-use Rattle.wam_machine.specs.Terms.{frame_at, goals_from, goals_at, IsFrame, AreFrames}
+use Rattle.wam_machine.specs.Machine.{Next}
+use Rattle.wam_machine.specs.Terms.{frame_at, goals_from, goals_at, next_of, IsFrame, AreFrames}
 
 -- each of the first n frames leads on to one below it
 abbrev pub AreLower : List Frame → ℕ → Type 0
@@ -38,24 +39,24 @@ goals_from-far tree frames m low (suc k) zero (suc i) inside a b = absurd (omega
 goals_from-far tree frames m low (suc k) (suc j) (suc i) inside a b =
     let less : i < m = omega arith in
     let here = low i less in
-    ap (λ (ts : List Tree). tree (frame_at frames i).goal ∷ ts)
+    ap (λ (ts : List Next). next_of tree (frame_at frames i).what ∷ ts)
     (goals_from-far tree frames m low k j (frame_at frames i).next (omega (arith, here, less)) (omega (arith, here, a)) (omega (arith, here, b)))
 
 -- frames above those that are led to do not matter
 pub goals_from-same : (f g : Cell → Tree) (old new : List Frame) (m : ℕ) → AreLower old m → AreSame old new m
-    → ((i : ℕ) → i < m → g (frame_at old i).goal ≡ f (frame_at old i).goal)
+    → ((i : ℕ) → i < m → next_of g (frame_at old i).what ≡ next_of f (frame_at old i).what)
     → (k n : ℕ) → n ≤ m → goals_from k g new n ≡ goals_from k f old n
 goals_from-same f g old new m low same trees zero n inside = refl
 goals_from-same f g old new m low same trees (suc k) zero inside = refl
 goals_from-same f g old new m low same trees (suc k) (suc i) inside =
     let less : i < m = omega arith in
     let here = low i less in
-    ap (λ (fr : Frame). g fr.goal ∷ goals_from k g new fr.next) (same i less)
-    ∙ ap₂ (λ (t : Tree) (ts : List Tree). t ∷ ts) (trees i less)
+    ap (λ (fr : Frame). next_of g fr.what ∷ goals_from k g new fr.next) (same i less)
+    ∙ ap₂ (λ (t : Next) (ts : List Next). t ∷ ts) (trees i less)
     (goals_from-same f g old new m low same trees k (frame_at old i).next (omega (arith, here, less)))
 
 pub goals_at-same : (f g : Cell → Tree) (old new : List Frame) (m : ℕ) → AreLower old m → AreSame old new m
-    → ((i : ℕ) → i < m → g (frame_at old i).goal ≡ f (frame_at old i).goal)
+    → ((i : ℕ) → i < m → next_of g (frame_at old i).what ≡ next_of f (frame_at old i).what)
     → (n : ℕ) → n ≤ m → goals_at g new n ≡ goals_at f old n
 unfolding goals_at
 goals_at-same f g old new m low same trees n inside = goals_from-same f g old new m low same trees n n inside
@@ -66,17 +67,17 @@ goals_at-none f frames = refl
 
 -- the goal of a frame, and the goals that it leads on to
 pub goals_at-next : (f : Cell → Tree) (frames : List Frame) (m i : ℕ) → AreLower frames m → i < m
-    → goals_at f frames (suc i) ≡ f (frame_at frames i).goal ∷ goals_at f frames (frame_at frames i).next
+    → goals_at f frames (suc i) ≡ next_of f (frame_at frames i).what ∷ goals_at f frames (frame_at frames i).next
 unfolding goals_at
 goals_at-next f frames m i low less =
     let here = low i less in
-    ap (λ (ts : List Tree). f (frame_at frames i).goal ∷ ts)
+    ap (λ (ts : List Next). next_of f (frame_at frames i).what ∷ ts)
     (goals_from-far f frames m low i (frame_at frames i).next (frame_at frames i).next (omega (arith, here, less)) here (omega arith))
 
 -- ---- as they are kept
 
 pub frames-same : (texts : List (List ℕ)) (s : Shape) (old new : List Frame) (n : ℕ) → AreSame old new n → AreFrames texts s old n → AreFrames texts s new n
-frames-same texts s old new n same h i less = subst (IsFrame (length texts) texts s i) (sym (same i less)) (h i less)
+frames-same texts s old new n same h i less = subst (IsFrame texts s i) (sym (same i less)) (h i less)
 
 pub frames-fewer : (texts : List (List ℕ)) (s : Shape) (frames : List Frame) (n m : ℕ) → m ≤ n → AreFrames texts s frames n → AreFrames texts s frames m
 frames-fewer texts s frames n m le h i less = h i (omega (arith, less, le))
@@ -88,15 +89,15 @@ frames-take texts s frames n le h =
     subst (AreFrames texts s (take n frames)) (sym (length-take-le n frames le)) (frames-same texts s frames (take n frames) n (same_take n frames) h)
 
 -- one more
-pub frames-more : (texts : List (List ℕ)) (s : Shape) (frames : List Frame) (f : Frame) → IsFrame (length texts) texts s (length frames) f
+pub frames-more : (texts : List (List ℕ)) (s : Shape) (frames : List Frame) (f : Frame) → IsFrame texts s (length frames) f
     → AreFrames texts s frames (length frames) → AreFrames texts s (frames ++ f ∷ []) (length (frames ++ f ∷ []))
 frames-more texts s frames f one h i less = go (nat_eq i (length frames)) refl
   where
-    go : (b : Bool) → nat_eq i (length frames) ≡ b → IsFrame (length texts) texts s i (frame_at (frames ++ f ∷ []) i)
+    go : (b : Bool) → nat_eq i (length frames) ≡ b → IsFrame texts s i (frame_at (frames ++ f ∷ []) i)
     go true q =
         let here : length frames ≡ i = grind arith in
-        subst (λ (k : ℕ). IsFrame (length texts) texts s k (frame_at (frames ++ f ∷ []) k)) here
-        (subst (IsFrame (length texts) texts s (length frames)) (sym (get_or-append_seam frames f [] (frame_at [] 0))) one)
+        subst (λ (k : ℕ). IsFrame texts s k (frame_at (frames ++ f ∷ []) k)) here
+        (subst (IsFrame texts s (length frames)) (sym (get_or-append_seam frames f [] (frame_at [] 0))) one)
     go false q =
         let e = length-append frames (f ∷ []) in
         let below : i < length frames = grind (arith, e, less) in

@@ -1,4 +1,4 @@
--- Going on with the next goal, or with none, is the machine's move.
+-- Going on with what is to be done next, or with nothing, is the machine's move.
 use Rattle.std.proofs.Common.{◌≡◌, ℕ, List, [], ◌∷◌, ◌++◌, length, Bool, refl, sym, ap, ◌∙◌, subst, Option, Some, append-nil}
 use Rattle.prolog_terms.specs.Tree.{Tree}
 use Rattle.prolog_terms.specs.Substitutions.{substituted, numbered}
@@ -8,12 +8,12 @@ use Rattle.journal_base.specs.View.{View, Out}
 use Rattle.term_store.specs.declared.cell.Cell.{Cell}
 use Rattle.wam_machine.specs.Control as spec
 use Rattle.wam_machine.specs.Control.{control_of}
-use Rattle.wam_machine.specs.Machine.{Setting, Outcome, Goes, Look, Going, Failing, move, fails}
-use Rattle.wam_machine.specs.Terms.{Said, AreTerms, said}
+use Rattle.wam_machine.specs.Machine.{State, Setting, Outcome, Next, Do, Goes, Look, Going, Failing, move, going, fails}
+use Rattle.wam_machine.specs.Terms.{Said, AreTerms, said, calls_in, is_any_open}
 use Rattle.wam_machine.specs.Goals.{IsSimple}
-use Rattle.wam_machine.specs.View.{setting, state_from, state_with, state_of, stack_of, mode_of, calls, has_calls, performs_goal, GoesOn, Does, IsHeld, IsHeldIn, IsLeft, IsReady, AreKept}
+use Rattle.wam_machine.specs.View.{setting, state_from, state_with, state_of, stack_of, mode_of, calls, performs_goal, GoesOn, Does, IsHeld, IsHeldIn, IsLeft, IsReady, AreKept}
 use Rattle.wam_machine.specs.declared.control.Control.{Control}
-use Rattle.wam_machine.specs.declared.control.Control.TheVariants.{True, Both, Equal, User}
+use Rattle.wam_machine.specs.declared.control.Control.TheVariants.{True, Fail, Cut, Repeat, Both, Either, IfElse, If, Not, Call, Once, Equal, User}
 use Rattle.wam_machine.specs.declared.run.Event.{Event}
 use Rattle.wam_machine.specs.declared.run.Event.TheVariants.{Answer}
 use Rattle.wam_machine.specs.declared.run.RunEnd.{RunEnd}
@@ -21,13 +21,23 @@ use Rattle.wam_machine.specs.declared.state.Host.{Host}
 use Rattle.wam_machine.specs.declared.state.Mode.{Mode}
 use Rattle.wam_machine.specs.declared.state.Mode.TheVariants.{Going as IsGoing, Failing as IsFailing}
 use Rattle.wam_machine.specs.declared.state.Machine.{Machine}
-use Rattle.wam_machine.proofs.Moves.{step_both, any-stack}
+use Rattle.wam_machine.specs.declared.terms.Terms.{Terms}
+use Rattle.wam_machine.proofs.Moves.{goal_both, any-stack}
 use Rattle.wam_machine.proofs.Steps.{quiet, through, does_through}
 
 -- a goal that is no conjunction
 pub is_simple : (c : Control) → ((a b : Cell) → c ≡ Both a b → ⊥) → IsSimple c
 is_simple True h = tt
+is_simple Fail h = tt
+is_simple Cut h = tt
+is_simple Repeat h = tt
 is_simple (Both a b) h = h a b refl
+is_simple (Either a b) h = tt
+is_simple (IfElse c t e) h = tt
+is_simple (If c t) h = tt
+is_simple (Not g) h = tt
+is_simple (Call g added) h = tt
+is_simple (Once g) h = tt
 is_simple (Equal a b) h = tt
 is_simple (User i) h = tt
 
@@ -35,7 +45,7 @@ is_simple (User i) h = tt
 pub same_setting : {C : Type 0} (h : Host) (m n : Machine C) (j : Journal) → (said n.terms).shown ≡ (said m.terms).shown → setting h n j ≡ setting h m j
 same_setting h m n j e = ap (λ (t : Tree). let x : Setting = record { engine = h.engine; journal = j; start = h.start; budget = h.budget; shown = t } in x) e
 
--- the next goal is taken, and nothing else is done
+-- what is to be done next is taken, and nothing else is done
 abbrev pub IsTaken : {C : Type 0} → Said C → Said C → Type 0
 IsTaken old new = new ≡ record old { goals = new.goals }
 
@@ -50,77 +60,73 @@ module _ {C : Type 0} (v : View) (serves : C → Goal → Type 0) (group : C →
     each = λ j b. rw (tally, stack) (r.each j b);
   }
 
-module _ {C : Type 0} (rest : C → Goal → Journal → List ℕ) (may : C → Goal → Journal → ℕ) (at : C → ℕ) (ahead : C → ℕ) (causes : List ℕ) where
-  moved : Setting → Journal → Machine C → List Look → ℕ → List ℕ → Mode → List Tree → Outcome
-  moved x j m looks tried fs md gs =
-      move x (state_from gs (stack_of rest at j (calls m)) (said m.terms).bindings (said m.terms).fresh (mode_of md) m.steps m.events.items m.front looks tried fs)
+  -- with other terms, which say the same but for what is to be done
+  pub ready_taken : (m : Machine C) (t : Terms C) → IsReady v serves group out rest may at budget m → AreTerms t → IsTaken (said m.terms) (said t) → IsReady v serves group out rest may at budget (record m { terms = t })
+  ready_taken m t r terms same = still_ready m (record m { terms = t }) r terms (ap (λ (u : Said C). calls_in u.stack) same) refl refl refl
 
-  stated : (j : Journal) (t : Said C) (n : Machine C) (md : Mode) (steps : ℕ) (events : List Event) (front : ℕ) (looks : List Look) (tried : ℕ) (fs : List ℕ) → said n.terms ≡ t → n.mode ≡ md → n.steps ≡ steps → n.events.items ≡ events → n.front ≡ front
-      → Goes (state_with rest at j t (mode_of md) steps events front looks tried fs) ≡ Goes (state_of rest at j n looks tried fs)
-  stated j t n md steps events front looks tried fs s a b c d =
-      ap (λ (u : Said C). Goes (state_with rest at j u (mode_of md) steps events front looks tried fs)) (sym s)
-      ∙ rw (a, b, c, d) refl
+module _ {C : Type 0} (rest : C → Goal → Journal → List ℕ) (may : C → Goal → Journal → ℕ) (at : C → ℕ) (ahead : C → ℕ) (causes : List ℕ) where
+  -- a state that goes on, with these things to be done
+  stated : (j : Journal) → Machine C → List Look → ℕ → List ℕ → Mode → List Next → State
+  stated j m looks tried fs md gs =
+      state_from gs (stack_of rest at j (said m.terms).stack) (said m.terms).bindings (said m.terms).fresh (mode_of md) m.steps m.events.items m.front looks tried fs
+
+  -- ---- what is to be done next
+
+  next_leads : (x : Setting) (j : Journal) (m : Machine C) (t : Terms C) (n : Next) (f : State → Outcome) (looks : List Look) (tried : ℕ) (fs : List ℕ) → m.mode ≡ IsGoing
+      → (said m.terms).goals ≡ n ∷ (said t).goals → IsTaken (said m.terms) (said t) → ((s : State) (gs : List Next) → going x s (n ∷ gs) ≡ f (record s { goals = gs }))
+      → move x (state_of rest at j m looks tried fs) ≡ f (state_of rest at j (record m { terms = t }) looks tried fs)
+  unfolding stated
+  next_leads x j m t n f looks tried fs mode some same by =
+      ap (λ (md : Mode). move x (stated j m looks tried fs md (said m.terms).goals)) mode
+      ∙ ap (λ (gs : List Next). move x (stated j m looks tried fs IsGoing gs)) some
+      ∙ by (stated j m looks tried fs IsGoing (n ∷ (said t).goals)) (said t).goals
+      ∙ ap (λ (u : Said C). f (state_with rest at j u Going m.steps m.events.items m.front looks tried fs)) (sym same)
+      ∙ ap (λ (md : Mode). f (state_with rest at j (said t) (mode_of md) m.steps m.events.items m.front looks tried fs)) (sym mode)
+
+  module _ (x : Setting) (m : Machine C) (t : Terms C) (next : Next) (f : State → Outcome) (mode : m.mode ≡ IsGoing) (some : (said m.terms).goals ≡ next ∷ (said t).goals) (same : IsTaken (said m.terms) (said t))
+      (by : (s : State) (gs : List Next) → going x s (next ∷ gs) ≡ f (record s { goals = gs })) where
+    pub goes_next : (j : Journal) (n : Machine C) → GoesOn rest may at ahead causes f j (record m { terms = t }) n → GoesOn rest may at ahead causes (move x) j m n
+    goes_next j n on =
+        through rest may at ahead causes f (move x) j m (record m { terms = t }) n refl refl (ap (λ (u : Said C). calls_in u.stack) same)
+        (λ looks tried fs. next_leads x j m t next f looks tried fs mode some same by) on
+
+    pub does_next : (n : Machine C) (o : Option RunEnd) → Does rest may at ahead causes f x (record m { terms = t }) n o → Does rest may at ahead causes (move x) x m n o
+    does_next n o on =
+        does_through rest may at ahead causes f (move x) x m (record m { terms = t }) n o refl refl (ap (λ (u : Said C). calls_in u.stack) same)
+        (λ looks tried fs. next_leads x x.journal m t next f looks tried fs mode some same by) on
 
   -- ---- an answer
 
-  pub does_answer : (x : Setting) (j : Journal) (m n : Machine C) → m.mode ≡ IsGoing → (said m.terms).goals ≡ [] → said n.terms ≡ said m.terms → n.mode ≡ IsFailing → n.steps ≡ m.steps → n.front ≡ m.front
-      → n.fronts.items ≡ m.fronts.items → n.tally ≡ m.tally
-      → n.events.items ≡ m.events.items ++ Answer (numbered (substituted (said m.terms).bindings x.shown)) (has_calls (calls m)) ∷ [] → IsHeldIn rest may at j m.tally (calls m)
+  pub does_answer : (x : Setting) (j : Journal) (m : Machine C) (n : Machine C) → m.mode ≡ IsGoing → (said m.terms).goals ≡ [] → n ≡ record m { mode = IsFailing; terms = n.terms; events = n.events } → said n.terms ≡ said m.terms
+      → n.events.items ≡ m.events.items ++ Answer (numbered (substituted (said m.terms).bindings x.shown)) (is_any_open (said m.terms).stack) ∷ [] → IsHeldIn rest may at j m.tally (calls m)
       → GoesOn rest may at ahead causes (move x) j m n
-  unfolding moved
-  does_answer x j m n going none same mode steps front fronts tally events held =
+  unfolding stated
+  does_answer x j m n mode none same told events held =
       let t = said m.terms in
       let value = numbered (substituted t.bindings x.shown) in
-      quiet rest may at ahead causes (move x) j m n [] (fronts ∙ sym (append-nil m.fronts.items))
+      quiet rest may at ahead causes (move x) j m n [] (ap (λ (k : Machine C). k.fronts.items) same ∙ sym (append-nil m.fronts.items))
       (λ looks tried fs.
-      ap (λ (md : Mode). moved x j m looks tried fs md t.goals) going
-      ∙ ap (moved x j m looks tried fs IsGoing) none
-      ∙ ap (λ (b : Bool). fails (state_from [] (stack_of rest at j (calls m)) t.bindings t.fresh Going m.steps (m.events.items ++ Answer value b ∷ []) m.front looks tried fs)) (any-stack rest at j (calls m))
-      ∙ ap (λ (gs : List Tree). Goes (state_from gs (stack_of rest at j (calls m)) t.bindings t.fresh Failing m.steps (m.events.items ++ Answer value (has_calls (calls m)) ∷ []) m.front looks tried fs)) (sym none)
-      ∙ stated j t n IsFailing m.steps (m.events.items ++ Answer value (has_calls (calls m)) ∷ []) m.front looks tried fs same mode steps events front)
-      tally (ap (λ (u : Said C). u.stack) same) held
-
-  -- ---- the next goal
-
-  next_goal : (x : Setting) (j : Journal) (m mid : Machine C) (goal : Tree) (looks : List Look) (tried : ℕ) (fs : List ℕ) → m.mode ≡ IsGoing → (said m.terms).goals ≡ goal ∷ (said mid.terms).goals
-      → IsTaken (said m.terms) (said mid.terms) → mid.mode ≡ m.mode → mid.steps ≡ m.steps → mid.events.items ≡ m.events.items → mid.front ≡ m.front
-      → move x (state_of rest at j m looks tried fs) ≡ performs_goal x goal (state_of rest at j mid looks tried fs)
-  unfolding moved
-  next_goal x j m mid goal looks tried fs going some same mode steps events front =
-      let t = said m.terms in
-      let gs = (said mid.terms).goals in
-      ap (λ (md : Mode). moved x j m looks tried fs md t.goals) going
-      ∙ ap (moved x j m looks tried fs IsGoing) some
-      ∙ ap (λ (u : Said C). performs_goal x goal (state_with rest at j u Going m.steps m.events.items m.front looks tried fs)) (sym same)
-      ∙ rw (mode ∙ going, steps, events, front) refl
-
-  pub does_next : (x : Setting) (j : Journal) (m mid n : Machine C) (goal : Tree) → m.mode ≡ IsGoing → (said m.terms).goals ≡ goal ∷ (said mid.terms).goals → IsTaken (said m.terms) (said mid.terms)
-      → mid ≡ record m { terms = mid.terms } → GoesOn rest may at ahead causes (performs_goal x goal) j mid n → GoesOn rest may at ahead causes (move x) j m n
-  does_next x j m mid n goal going some same other on =
-      through rest may at ahead causes (performs_goal x goal) (move x) j m mid n (ap (λ (k : Machine C). k.fronts.items) other) (ap (λ (k : Machine C). k.tally) other) (ap (λ (u : Said C). u.stack) same)
-      (λ looks tried fs. next_goal x j m mid goal looks tried fs going some same (ap (λ (k : Machine C). k.mode) other) (ap (λ (k : Machine C). k.steps) other) (ap (λ (k : Machine C). k.events.items) other) (ap (λ (k : Machine C). k.front) other))
-      on
-
-  pub does_next_so : (x : Setting) (m mid n : Machine C) (goal : Tree) (o : Option RunEnd) → m.mode ≡ IsGoing → (said m.terms).goals ≡ goal ∷ (said mid.terms).goals → IsTaken (said m.terms) (said mid.terms)
-      → mid ≡ record m { terms = mid.terms } → Does rest may at ahead causes (performs_goal x goal) x mid n o → Does rest may at ahead causes (move x) x m n o
-  does_next_so x m mid n goal o going some same other on =
-      does_through rest may at ahead causes (performs_goal x goal) (move x) x m mid n o (ap (λ (k : Machine C). k.fronts.items) other) (ap (λ (k : Machine C). k.tally) other) (ap (λ (u : Said C). u.stack) same)
-      (λ looks tried fs. next_goal x x.journal m mid goal looks tried fs going some same (ap (λ (k : Machine C). k.mode) other) (ap (λ (k : Machine C). k.steps) other) (ap (λ (k : Machine C). k.events.items) other) (ap (λ (k : Machine C). k.front) other))
-      on
+      ap (λ (md : Mode). move x (stated j m looks tried fs md t.goals)) mode
+      ∙ ap (λ (gs : List Next). move x (stated j m looks tried fs IsGoing gs)) none
+      ∙ ap (λ (b : Bool). fails (state_from [] (stack_of rest at j t.stack) t.bindings t.fresh Going m.steps (m.events.items ++ Answer value b ∷ []) m.front looks tried fs)) (any-stack rest at j t.stack)
+      ∙ ap (λ (gs : List Next). Goes (state_from gs (stack_of rest at j t.stack) t.bindings t.fresh Failing m.steps (m.events.items ++ Answer value (is_any_open t.stack) ∷ []) m.front looks tried fs)) (sym none)
+      ∙ ap (λ (es : List Event). Goes (state_with rest at j t Failing m.steps es m.front looks tried fs)) (sym events)
+      ∙ ap (λ (u : Said C). Goes (state_with rest at j u Failing m.steps n.events.items m.front looks tried fs)) (sym told)
+      ∙ ap (λ (k : Machine C). Goes (state_with rest at j (said n.terms) (mode_of k.mode) k.steps n.events.items k.front looks tried fs)) (sym same))
+      (ap (λ (k : Machine C). k.tally) same) (ap (λ (u : Said C). calls_in u.stack) told) held
 
   -- ---- a conjunction
 
-  pub does_both : (x : Setting) (j : Journal) (mid n : Machine C) (goal a b : Tree) → control_of goal ≡ Some (spec.Both a b) → n ≡ record mid { terms = n.terms }
-      → said n.terms ≡ record (said mid.terms) { goals = a ∷ b ∷ (said mid.terms).goals } → IsHeldIn rest may at j mid.tally (calls mid)
-      → GoesOn rest may at ahead causes (performs_goal x goal) j mid n
-  does_both x j mid n goal a b e same now held =
-      let t = said mid.terms in
-      quiet rest may at ahead causes (performs_goal x goal) j mid n [] (ap (λ (k : Machine C). k.fronts.items) same ∙ sym (append-nil mid.fronts.items))
+  pub does_both : (x : Setting) (j : Journal) (m n : Machine C) (goal a b : Tree) (cut : ℕ) → control_of goal ≡ Some (spec.Both a b) → n ≡ record m { terms = n.terms }
+      → said n.terms ≡ record (said m.terms) { goals = Do a cut ∷ Do b cut ∷ (said m.terms).goals } → IsHeldIn rest may at j m.tally (calls m)
+      → GoesOn rest may at ahead causes (performs_goal x goal cut) j m n
+  does_both x j m n goal a b cut e same now held =
+      quiet rest may at ahead causes (performs_goal x goal cut) j m n [] (ap (λ (k : Machine C). k.fronts.items) same ∙ sym (append-nil m.fronts.items))
       (λ looks tried fs.
-      step_both x t.goals (stack_of rest at j t.stack) t.bindings t.fresh mid.steps mid.events.items mid.front looks tried (mode_of mid.mode) goal a b fs e
-      ∙ stated j (record t { goals = a ∷ b ∷ t.goals }) n mid.mode mid.steps mid.events.items mid.front looks tried fs now (ap (λ (k : Machine C). k.mode) same) (ap (λ (k : Machine C). k.steps) same)
-      (ap (λ (k : Machine C). k.events.items) same) (ap (λ (k : Machine C). k.front) same))
-      (ap (λ (k : Machine C). k.tally) same) (ap (λ (u : Said C). u.stack) now) held
+      goal_both x goal a b cut (state_of rest at j m looks tried fs) e
+      ∙ ap (λ (u : Said C). Goes (state_with rest at j u (mode_of m.mode) m.steps m.events.items m.front looks tried fs)) (sym now)
+      ∙ ap (λ (k : Machine C). Goes (state_with rest at j (said n.terms) (mode_of k.mode) k.steps k.events.items k.front looks tried fs)) (sym same))
+      (ap (λ (k : Machine C). k.tally) same) (ap (λ (u : Said C). calls_in u.stack) now) held
 
 -- ---- what is left
 

@@ -4,7 +4,6 @@ use Rattle.std.specs.Prelude.{option_map, IfSome}
 use Rattle.std.proofs.lemmas.List.{take_all}
 use Rattle.std.proofs.lemmas.Option.{unwrap_or-slice_get}
 use Rattle.prolog_terms.specs.Tree.{Tree, atom, compound}
-use Rattle.prolog_terms.specs.Substitutions.{substituted}
 use Rattle.journal_base.specs.Keys.{key, argument, arguments, keys, atom_key, functor_key}
 use Rattle.journal_base.specs.Calls.{AreKeysOf, text_of, goal_keys}
 use Rattle.journal_base.specs.Filling.{IsKeyAt, Filled}
@@ -15,7 +14,7 @@ use Rattle.term_store.specs.declared.cell.View.TheVariants.{Atom, Compound}
 use Rattle.term_store.specs.Shape.{Shape}
 use Rattle.term_store.specs.Terms.{text, term_of, trees_of, IsShape, HasTerm, AreNamed}
 use Rattle.term_store.specs.Views.{Looks}
-use Rattle.wam_machine.specs.Terms.{IsGoal, IsBuilt, said, built}
+use Rattle.wam_machine.specs.Terms.{IsBuilt, built}
 use Rattle.wam_machine.specs.declared.terms.Terms.{Terms}
 use Rattle.wam_machine.proofs.SeenCells.{IsKept, kept_seen, named_seen, count_trees}
 
@@ -71,10 +70,10 @@ keys_numbered names t at n e f = numbered names t at (subst (Filled names t at) 
 
 -- what a goal stands for
 module _ {C : Type 0} (t : Terms C) (c : Cell) where
-  pub goal_has : IsGoal t c → HasTerm (length t.names) t.store c
+  pub goal_has : IsBuilt t c → HasTerm (length t.names) t.store c
   unfolding IsBuilt
-  goal_has g = g.built_is
+  goal_has g = g
 
-  pub stands : term_of t.names t.store c ≡ substituted (said t).bindings (built t c)
-  unfolding said built
+  pub stands : term_of t.names t.store c ≡ built t c
+  unfolding built
   stands = refl

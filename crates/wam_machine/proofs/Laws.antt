@@ -1,17 +1,20 @@
 -- A goal has one transcript at most, and its steps are within the budget.
 use Rattle.std.proofs.Common.{◌≡◌, ℕ, suc, ◌+◌, ◌≤◌, List, [], ◌∷◌, Bool, true, false, refl, sym, ◌∙◌, subst, arith, inl, inr}
-use Rattle.std.specs.Prelude.{◌==◌, ◌≢◌, ◌⊎◌, ◌&&◌, nat_le, if◌then◌else◌, Option, Some, None, take, length, map}
+use Rattle.std.specs.Prelude.{◌==◌, ◌≢◌, ◌⊎◌, ◌&&◌, nat_le, nat_lt, codes, if◌then◌else◌, Option, Some, None, take, length}
 use Rattle.std.proofs.lemmas.Bool.Decides.{eqb_tells}
-use Rattle.prolog_terms.specs.Tree.{Tree}
+use Rattle.prolog_terms.specs.Tree.{Tree, Trees, variable, integer, atom, compound, count}
+use Rattle.prolog_terms.specs.declared.fault.Fault.TheVariants.{Representation}
 use Rattle.prolog_terms.specs.declared.entry.Clause.{Clause}
 use Rattle.prolog_terms.specs.declared.entry.Indicator.{Indicator}
 use Rattle.journal_base.specs.Journal.{Journal, number_of}
 use Rattle.journal_base.specs.Keys.{keys}
 use Rattle.prolog_terms.specs.Substitutions.{renamed}
-use Rattle.wam_machine.specs.Control.{Control, True, Both, Equal, User, control_of, body_goals}
+use Rattle.term_unifier.specs.Unifier.{unifier}
+use Rattle.prolog_terms.specs.Clauses.{body_of}
+use Rattle.wam_machine.specs.Control.{Control, True, Fail, Cut, Repeat, Both, Either, IfElse, If, Not, Call, Once, Equal, User, control_of, with_added}
 use Rattle.wam_machine.specs.declared.run.RunEnd.{RunEnd}
 use Rattle.wam_machine.specs.declared.run.RunEnd.TheVariants.{Exhausted, Ball, Spent}
-use Rattle.wam_machine.specs.Machine.{Alternative, Clauses, Choice, Mode, Going, Failing, Raising, State, Setting, Report, Outcome, Goes, Ends, Unfit, no_more, made_all, over, stepping, now, solution, solving, equating, numbering, entering, leaving, trying, candidate_clauses, looked, called, calling, performing, doing, goal_move, going, taken, failing, move, Runs, ends, goes}
+use Rattle.wam_machine.specs.Machine.{Next, Do, ConditionEnd, NotEnd, Alternative, Clauses, Right, Again, NotMark, Choice, Mode, Going, Failing, Raising, State, Setting, Report, Outcome, Goes, Ends, Unfit, no_more, made_all, over, stepping, onwards, height, solving, equating, numbering, body_from, entering, leaving, trying, candidate_clauses, looked, called, calling, call_with, running, calling_added, denying, repeating, performing, doing, goal_move, going, back_to, taken, failing, raising, raises, move, Runs, ends, goes}
 
 -- ---- one transcript
 
@@ -31,55 +34,67 @@ Runs-one x r q (goes {t = t} e h) (goes {t = u} f k) =
 -- ---- steps
 
 -- an outcome with as many steps as before
-Keeps : ℕ → Outcome → Type 0
+abbrev pub Keeps : ℕ → Outcome → Type 0
 Keeps n (Goes t) = t.steps ≡ n
 Keeps n (Ends r) = r.steps ≡ n
 Keeps n Unfit = Unit {0}
 
 -- an outcome with steps within the budget
-Within : ℕ → Outcome → Type 0
+abbrev pub Within : ℕ → Outcome → Type 0
 Within budget (Goes t) = t.steps ≤ budget
 Within budget (Ends r) = r.steps ≤ budget
 Within budget Unfit = Unit {0}
 
 kept_within : (budget n : ℕ) (o : Outcome) → n ≤ budget → Keeps n o → Within budget o
-unfolding Keeps Within
 kept_within budget n (Goes t) le k = rw k le
 kept_within budget n (Ends r) le k = rw k le
 kept_within budget n Unfit le k = tt
 
-over-keeps : (x : Setting) (s : State) (end : RunEnd) → Keeps s.steps (over x s end)
-unfolding Keeps
+pub over-keeps : (x : Setting) (s : State) (end : RunEnd) → Keeps s.steps (over x s end)
 over-keeps x s end = go (no_more s.fronts && made_all x)
   where
     go : (b : Bool) → Keeps s.steps (if b then Ends (record { events = s.events; looks = s.looks; tried = s.tried; steps = s.steps; end = end }) else Unfit)
     go true = refl
     go false = tt
 
-solving-keeps : (goals : List Tree) (s : State) (o : Option (ℕ → Tree)) → Keeps s.steps (solving goals s o)
-unfolding Keeps
+solving-keeps : (goals : List Next) (s : State) (o : Option (ℕ → Tree)) → Keeps s.steps (solving goals s o)
 solving-keeps goals s None = refl
 solving-keeps goals s (Some m) = refl
 
-equating-keeps : (a b : Tree) (goals : List Tree) (s : State) → Keeps s.steps (equating a b goals s)
-equating-keeps a b goals s = solving-keeps goals s (solution s a b)
+equating-keeps : (a b : Tree) (goals : List Next) (s : State) → Keeps s.steps (equating a b goals s)
+equating-keeps a b goals s = solving-keeps goals s (unifier a b)
 
-entering-keeps : (goal : Tree) (c : Clause) (from : ℕ) (s : State) → Keeps s.steps (entering goal c from s)
-entering-keeps goal c from s = equating-keeps (renamed from c.head) goal (map (renamed from) (body_goals c.body)) s
+entering-keeps : (goal : Tree) (c : Clause) (from cut : ℕ) (s : State) → Keeps s.steps (entering goal c from cut s)
+entering-keeps goal c from cut s = equating-keeps (renamed from c.head) goal (body_from from cut c) s
 
-trying-keeps : (goal : Tree) (cs : List Clause) (s : State) → Keeps s.steps (trying goal cs s)
-unfolding Keeps
+pub trying-keeps : (goal : Tree) (cs : List Clause) (s : State) → Keeps s.steps (trying goal cs s)
 trying-keeps goal [] s = refl
-trying-keeps goal (c ∷ []) s = entering-keeps goal c s.fresh (numbering c (record s { tried = s.tried + 1 }))
-trying-keeps goal (c ∷ d ∷ ds) s = entering-keeps goal c s.fresh (numbering c (leaving goal (d ∷ ds) (record s { tried = s.tried + 1 })))
+trying-keeps goal (c ∷ []) s = entering-keeps goal c s.fresh (height s) (numbering c (record s { tried = s.tried + 1 }))
+trying-keeps goal (c ∷ d ∷ ds) s = entering-keeps goal c s.fresh (height s) (numbering c (leaving goal (d ∷ ds) (record s { tried = s.tried + 1 })))
 
 called-keeps : (goal : Tree) (i : Indicator) (before : ℕ) (seen : Journal) (s : State) (o : Option ℕ) → Keeps s.steps (called goal i before seen s o)
-unfolding Keeps
 called-keeps goal i before seen s None = refl
-called-keeps goal i before seen s (Some p) = trying-keeps goal (candidate_clauses seen p (keys (now s goal))) (looked before s p (now s goal))
+called-keeps goal i before seen s (Some p) = trying-keeps goal (candidate_clauses seen p (keys goal)) (looked before s p goal)
+
+running-keeps : (goal : Tree) (at : Indicator) (s : State) (o : Option Tree) → Keeps s.steps (running goal at s o)
+running-keeps goal at s None = refl
+running-keeps goal at s (Some b) = refl
+
+denying-keeps : (goal : Tree) (s : State) (o : Option Tree) → Keeps s.steps (denying goal s o)
+denying-keeps goal s None = refl
+denying-keeps goal s (Some b) = refl
+
+calling_added-keeps : (goal : Tree) (added : Trees) (s : State) → Keeps s.steps (calling_added goal added s)
+calling_added-keeps (variable n) added s = refl
+calling_added-keeps (integer z) added s = refl
+calling_added-keeps (atom a) added s = running-keeps (with_added (atom a) added) (call_with added) s (body_of (with_added (atom a) added))
+calling_added-keeps (compound f ts) added s = go (nat_lt 255 (count ts + count added))
+  where
+    go : (b : Bool) → Keeps s.steps (if b then raises (Representation (codes "max_arity")) (call_with added) s else running (with_added (compound f ts) added) (call_with added) s (body_of (with_added (compound f ts) added)))
+    go true = refl
+    go false = running-keeps (with_added (compound f ts) added) (call_with added) s (body_of (with_added (compound f ts) added))
 
 calling-keeps : (x : Setting) (s : State) (goal : Tree) (i : Indicator) → Keeps s.steps (calling x s goal i)
-unfolding Keeps
 calling-keeps x s goal i = go s.fronts
   where
     at : (f : ℕ) (fs : List ℕ) (b : Bool) → Keeps s.steps (if b then called goal i s.front (take f x.journal) (record s { front = f; fronts = fs }) (number_of (take f x.journal) i) else Unfit)
@@ -99,46 +114,67 @@ stepping-within x s then_ le k = go (eqb_tells s.steps x.budget)
         let more : suc s.steps ≤ x.budget = omega (arith, other) in
         rw (e, stepping) (kept_within x.budget (suc s.steps) (then_ (record s { steps = suc s.steps })) more (k (record s { steps = suc s.steps })))
 
-performing-keeps : (x : Setting) (goal : Tree) (c : Control) (s : State) → Keeps s.steps (performing x goal c s)
-unfolding Keeps
-performing-keeps x goal True s = refl
-performing-keeps x goal (Both a b) s = refl
-performing-keeps x goal (Equal a b) s = equating-keeps a b [] s
-performing-keeps x goal (User i) s = calling-keeps x s goal i
+pub performing-keeps : (x : Setting) (goal : Tree) (cut : ℕ) (c : Control) (s : State) → Keeps s.steps (performing x goal cut c s)
+performing-keeps x goal cut True s = refl
+performing-keeps x goal cut Fail s = refl
+performing-keeps x goal cut Cut s = refl
+performing-keeps x goal cut Repeat s = refl
+performing-keeps x goal cut (Both a b) s = refl
+performing-keeps x goal cut (Either a b) s = refl
+performing-keeps x goal cut (IfElse c t e) s = refl
+performing-keeps x goal cut (If c t) s = refl
+performing-keeps x goal cut (Not g) s = denying-keeps g s (body_of g)
+performing-keeps x goal cut (Call g added) s = calling_added-keeps g added s
+performing-keeps x goal cut (Once g) s = refl
+performing-keeps x goal cut (Equal a b) s = equating-keeps a b [] s
+performing-keeps x goal cut (User i) s = calling-keeps x s goal i
 
-doing-within : (x : Setting) (goal : Tree) (s : State) (c : Control) → s.steps ≤ x.budget → Within x.budget (doing x goal s c)
-unfolding Within
-doing-within x goal s True le = stepping-within x s (performing x goal True) le (performing-keeps x goal True)
-doing-within x goal s (Both a b) le = le
-doing-within x goal s (Equal a b) le = stepping-within x s (performing x goal (Equal a b)) le (performing-keeps x goal (Equal a b))
-doing-within x goal s (User i) le = stepping-within x s (performing x goal (User i)) le (performing-keeps x goal (User i))
+performed-within : (x : Setting) (goal : Tree) (cut : ℕ) (s : State) (c : Control) → s.steps ≤ x.budget → Within x.budget (stepping x s (performing x goal cut c))
+performed-within x goal cut s c le = stepping-within x s (performing x goal cut c) le (performing-keeps x goal cut c)
 
-goal_move-within : (x : Setting) (goal : Tree) (s : State) (o : Option Control) → s.steps ≤ x.budget → Within x.budget (goal_move x goal s o)
-unfolding Within
-goal_move-within x goal s None le = tt
-goal_move-within x goal s (Some c) le = doing-within x goal s c le
+doing-within : (x : Setting) (goal : Tree) (cut : ℕ) (s : State) (c : Control) → s.steps ≤ x.budget → Within x.budget (doing x goal cut s c)
+doing-within x goal cut s True le = performed-within x goal cut s True le
+doing-within x goal cut s Fail le = performed-within x goal cut s Fail le
+doing-within x goal cut s Cut le = performed-within x goal cut s Cut le
+doing-within x goal cut s Repeat le = performed-within x goal cut s Repeat le
+doing-within x goal cut s (Both a b) le = le
+doing-within x goal cut s (Either a b) le = performed-within x goal cut s (Either a b) le
+doing-within x goal cut s (IfElse c t e) le = performed-within x goal cut s (IfElse c t e) le
+doing-within x goal cut s (If c t) le = performed-within x goal cut s (If c t) le
+doing-within x goal cut s (Not g) le = performed-within x goal cut s (Not g) le
+doing-within x goal cut s (Call g added) le = performed-within x goal cut s (Call g added) le
+doing-within x goal cut s (Once g) le = performed-within x goal cut s (Once g) le
+doing-within x goal cut s (Equal a b) le = performed-within x goal cut s (Equal a b) le
+doing-within x goal cut s (User i) le = performed-within x goal cut s (User i) le
 
-going-within : (x : Setting) (s : State) (gs : List Tree) → s.steps ≤ x.budget → Within x.budget (going x s gs)
-unfolding Within
+goal_move-within : (x : Setting) (goal : Tree) (cut : ℕ) (s : State) (o : Option Control) → s.steps ≤ x.budget → Within x.budget (goal_move x goal cut s o)
+goal_move-within x goal cut s None le = tt
+goal_move-within x goal cut s (Some c) le = doing-within x goal cut s c le
+
+going-within : (x : Setting) (s : State) (gs : List Next) → s.steps ≤ x.budget → Within x.budget (going x s gs)
 going-within x s [] le = le
-going-within x s (g ∷ rest) le = goal_move-within x g (record s { goals = rest }) (control_of g) le
+going-within x s (Do g cut ∷ rest) le = goal_move-within x g cut (record s { goals = rest }) (control_of g) le
+going-within x s (ConditionEnd h ∷ rest) le = le
+going-within x s (NotEnd h ∷ rest) le = le
 
 taken-within : (x : Setting) (s : State) (a : Alternative) → s.steps ≤ x.budget → Within x.budget (taken x s a)
 taken-within x s (Clauses goal rest) le = stepping-within x s (trying goal rest) le (trying-keeps goal rest)
+taken-within x s (Right goal cut) le = stepping-within x s (onwards (Do goal cut ∷ [])) le (λ t. refl)
+taken-within x s Again le = stepping-within x s repeating le (λ t. refl)
+taken-within x s NotMark le = le
 
 failing-within : (x : Setting) (s : State) (st : List Choice) → s.steps ≤ x.budget → Within x.budget (failing x s st)
 failing-within x s [] le = kept_within x.budget s.steps (over x s Exhausted) le (over-keeps x s Exhausted)
-failing-within x s (c ∷ below) le = taken-within x (record s { mode = Going; goals = c.goals; bindings = c.bindings; stack = below }) c.what le
+failing-within x s (c ∷ below) le = taken-within x (back_to s c below) c.what le
 
-move-within : (x : Setting) (s : State) → s.steps ≤ x.budget → Within x.budget (move x s)
+pub move-within : (x : Setting) (s : State) → s.steps ≤ x.budget → Within x.budget (move x s)
 move-within x s le = go s.mode
   where
-    go : (m : Mode) → Within x.budget (elim m [ Going ↦ going x s s.goals | Failing ↦ failing x s s.stack | Raising ball ↦ over x s (Ball ball) ])
+    go : (m : Mode) → Within x.budget (elim m [ Going ↦ going x s s.goals | Failing ↦ failing x s s.stack | Raising ball ↦ raising x s ball ])
     go Going = going-within x s s.goals le
     go Failing = failing-within x s s.stack le
     go (Raising ball) = kept_within x.budget s.steps (over x s (Ball ball)) le (over-keeps x s (Ball ball))
 
 pub Runs-within : (x : Setting) {s : State} {r : Report} → Runs x s r → s.steps ≤ x.budget → r.steps ≤ x.budget
-unfolding Within
 Runs-within x (ends {s = s} e) le = let P : Outcome → Type 0 = λ o. Within x.budget o in subst P e (move-within x s le)
 Runs-within x (goes {s = s} e h) le = Runs-within x h (let P : Outcome → Type 0 = λ o. Within x.budget o in subst P e (move-within x s le))

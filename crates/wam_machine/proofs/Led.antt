@@ -12,11 +12,16 @@ use Rattle.journal_base.specs.declared.cause.How.{How}
 use Rattle.journal_base.specs.declared.tally.Tally.{Tally}
 use Rattle.wam_machine.specs.Machine.{Look, Setting, Runs, ends, goes, move, beginning, made_all}
 use Rattle.wam_machine.specs.Runs.{IsFairLook, allowances, report_of, IsTranscribed}
-use Rattle.wam_machine.specs.View.{state_of, Works, GoesOn, ComesToEnd, IsLed, IsBeginning, no_tally, run_of, calls}
+use Rattle.wam_machine.specs.View.{setting, state_of, Works, GoesOn, ComesToEnd, IsLed, IsBeginning, no_tally, run_of, calls}
 use Rattle.wam_machine.specs.declared.run.Goal.{Goal as Started}
 use Rattle.wam_machine.specs.declared.run.RunEnd.{RunEnd}
-use Rattle.wam_machine.specs.Terms.{Left, Said}
+use Rattle.wam_machine.specs.Terms.{Left, Said, said, calls_in}
+use Rattle.wam_machine.specs.declared.state.Host.{Host}
 use Rattle.wam_machine.specs.declared.state.Machine.{Machine}
+
+-- the setting is the same while the shown term is
+pub one_setting : {C : Type 0} (h : Host) (m n : Machine C) (j : Journal) → (said n.terms).shown ≡ (said m.terms).shown → setting h n j ≡ setting h m j
+one_setting h m n j e = ap (λ (t : Tree). let x : Setting = record { engine = h.engine; journal = j; start = h.start; budget = h.budget; shown = t } in x) e
 
 -- ---- lists that go on
 
@@ -72,7 +77,7 @@ module _ {C : Type 0} (rest : C → Goal → Journal → List ℕ) (may : C → 
     tried = 0;
     leads = λ fs r h. subst (λ s. Runs x s r) (same fs) h;
     works = subst (λ t. Works may at ahead causes x.journal no_tally t [] (calls m) [] [] 0) (sym b.tally)
-        (subst (λ cs. Works may at ahead causes x.journal no_tally no_tally [] cs [] [] 0) (sym (ap (λ (t : Said C). t.stack) b.said_is)) none);
+        (subst (λ cs. Works may at ahead causes x.journal no_tally no_tally [] cs [] [] 0) (sym (ap (λ (t : Said C). calls_in t.stack) b.said_is)) none);
   }
     where
       same : (fs : List ℕ) → state_of rest at x.journal m [] 0 fs ≡ beginning x goal.term (m.fronts.items ++ fs)

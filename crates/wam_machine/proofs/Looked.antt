@@ -1,6 +1,7 @@
 -- A procedure is called.
-use Rattle.std.proofs.Common.{◌≡◌, ℕ, suc, zero, ◌+◌, ◌*◌, ◌≤◌, List, [], ◌∷◌, ◌++◌, length, take, refl, sym, ap, ◌∙◌, arith, subst, Some}
-use Rattle.std.specs.Prelude.{Contains}
+use Rattle.std.proofs.Common.{◌≡◌, ℕ, suc, zero, ◌+◌, ◌*◌, ◌≤◌, List, [], ◌∷◌, ◌++◌, length, take, refl, sym, ap, ◌∙◌, arith, subst, true, Some, None}
+use Rattle.std.specs.Prelude.{Contains, nat_le}
+use Rattle.std.proofs.lemmas.Bool.Decides.{nat_tests}
 use Rattle.std.specs.List.{sum_by}
 use Rattle.std.proofs.lemmas.List.Sums.{sum_by_push}
 use Rattle.prolog_terms.specs.declared.entry.Indicator.{Indicator}
@@ -14,13 +15,15 @@ use Rattle.journal_base.specs.declared.cause.Cause.{Cause}
 use Rattle.journal_base.specs.declared.cause.Cause.TheVariants.{Plain, Few, Crowded, Claimed, Barred, NoPlace, Passed, NoMemory, Built}
 use Rattle.journal_base.specs.declared.tally.Tally.{Tally}
 use Rattle.prolog_terms.specs.Tree.{Tree}
-use Rattle.prolog_terms.specs.Substitutions.{substituted}
-use Rattle.wam_machine.specs.Machine.{Setting, Look, calling, trying, candidate_clauses, call_of}
-use Rattle.wam_machine.specs.Cursors.{IsOpened, goal_of, part, clauses_left, visits_left}
-use Rattle.wam_machine.specs.View.{stack_of, mode_of, state_with, state_of, calls, all_visits, aheads, GoesOn, IsHeldIn, Tries, KeepsCounts}
-use Rattle.wam_machine.specs.Terms.{Left, Said, said}
+use Rattle.prolog_terms.specs.Faults.{fault_tree}
+use Rattle.prolog_terms.specs.declared.fault.Fault.TheVariants.{Existence}
+use Rattle.wam_machine.specs.Machine as spec
+use Rattle.wam_machine.specs.Machine.{Goes, Next, Raising, Setting, Look, called, calling, trying, candidate_clauses, call_of}
+use Rattle.wam_machine.specs.Cursors.{IsOpened, goal_of, clauses_left, visits_left}
+use Rattle.wam_machine.specs.View.{stack_of, mode_of, state_from, state_with, state_of, calls, all_visits, aheads, GoesOn, IsHeldIn, Tries, KeepsCounts}
+use Rattle.wam_machine.specs.Terms.{Left, Said, said, calls_in}
 use Rattle.wam_machine.specs.declared.state.Machine.{Machine}
-use Rattle.wam_machine.proofs.Moves.{call_found}
+use Rattle.wam_machine.specs.declared.run.Event.{Event}
 
 one : {A : Type 0} (f : A → ℕ) (x : A) → sum_by f (x ∷ []) ≡ f x
 one f x = plus (f x)
@@ -49,19 +52,44 @@ only_plain : (how : How) → TellsOnly (0 ∷ []) how → how ≡ Scanned Plain
 only_plain (Indexed mark covered age late kept) h = absurd (h.0 refl)
 only_plain (Scanned c) h = plain_cause c (no_cause c h.1)
 
+-- ---- a call, as the definition has it
+
+at_most : (m n : ℕ) → m ≤ n → nat_le m n ≡ true
+at_most m n h = grind (arith, nat_tests)
+
+module _ (x : Setting) (goals : List Next) (stack : List spec.Choice) (bindings : ℕ → Tree) (fresh : ℕ) (steps : ℕ) (events : List Event) (front : ℕ) (looks : List Look) (tried : ℕ) (m : spec.Mode) (goal : Tree) (i : Indicator) where
+  called_at : (f : ℕ) (fs : List ℕ) → front ≤ f → f ≤ length x.journal →
+      calling x (state_from goals stack bindings fresh m steps events front looks tried (f ∷ fs)) goal i
+      ≡ called goal i front (take f x.journal) (state_from goals stack bindings fresh m steps events f looks tried fs) (number_of (take f x.journal) i)
+  called_at f fs low high = rw (at_most front f low, at_most f (length x.journal) high) refl
+
+  -- of a procedure that isn't declared
+  pub call_missing : (ball : Tree) (f : ℕ) (fs : List ℕ) → front ≤ f → f ≤ length x.journal → number_of (take f x.journal) i ≡ None → ball ≡ fault_tree (Existence i) i →
+      calling x (state_from goals stack bindings fresh m steps events front looks tried (f ∷ fs)) goal i ≡ Goes (state_from goals stack bindings fresh (Raising ball) steps events f looks tried fs)
+  call_missing ball f fs low high absent is = called_at f fs low high ∙ rw (absent, is) refl
+
+  -- of one that is
+  call_found : (p f : ℕ) (fs : List ℕ) → front ≤ f → f ≤ length x.journal → number_of (take f x.journal) i ≡ Some p →
+      calling x (state_from goals stack bindings fresh m steps events front looks tried (f ∷ fs)) goal i
+      ≡ trying goal (candidate_clauses (take f x.journal) p (keys goal))
+      (state_from goals stack bindings fresh m steps events f (looks ++ record { before = front; front = f; call = call_of p goal } ∷ []) tried fs)
+  call_found p f fs low high some = called_at f fs low high ∙ rw some refl
+
+-- ---- as the engine does it
+
 module _ {C : Type 0} (rest : C → Goal → Journal → List ℕ) (may : C → Goal → Journal → ℕ) (at : C → ℕ) (ahead : C → ℕ) (causes : List ℕ) where
   pub looked : (x : Setting) (m mid new : Machine C) (c : Left C) (how : How) (i : Indicator) → mid.front ≡ at c.cursor → m.front ≤ at c.cursor → at c.cursor ≤ length x.journal
-      → number_of (take (at c.cursor) x.journal) i ≡ Some c.procedure → c.bindings ≡ (said m.terms).bindings
+      → number_of (take (at c.cursor) x.journal) i ≡ Some c.procedure
       → mid.mode ≡ m.mode → said mid.terms ≡ said m.terms → mid.steps ≡ m.steps → mid.events.items ≡ m.events.items → mid.fronts.items ≡ m.fronts.items ++ mid.front ∷ []
       → IsOpened rest may at causes m.front x.journal c how m.tally mid.tally → CountsLook m.tally mid.tally how → m.tally.visits + ahead c.cursor ≤ mid.tally.visits
       → Tries rest may at ahead x.journal c mid new → KeepsCounts mid new → IsHeldIn rest may at x.journal m.tally (calls m)
       → GoesOn rest may at ahead causes (λ s. calling x s c.goal i) x.journal m new
-  looked x m mid new c how i is low high named moment mode terms steps events fronts opened counted first tries counts held =
+  looked x m mid new c how i is low high named mode terms steps events fronts opened counted first tries counts held =
       let j : Journal = x.journal in
       let t : Said C = said m.terms in
       let f : ℕ = at c.cursor in
       let look : Look = record { before = m.front; front = f; call = goal_of c } in
-      let stack : calls mid ≡ calls m = ap (λ (u : Said C). u.stack) terms in
+      let stack : calls mid ≡ calls m = ap (λ (u : Said C). calls_in u.stack) terms in
       let looks : new.tally.looks ≡ m.tally.looks + 1 = ap (λ (u : Tally). u.looks) counts.tally ∙ counted.looks in
       let all : all_visits may at j (calls mid ++ c ∷ []) ≡ all_visits may at j (calls m) + visits_left may at j c =
       ap (λ cs. all_visits may at j (cs ++ c ∷ [])) stack ∙ sum_by_push (visits_left may at j) (calls m) c in
@@ -75,9 +103,6 @@ module _ {C : Type 0} (rest : C → Goal → Journal → List ℕ) (may : C → 
         fronts_are = counts.fronts ∙ fronts ∙ ap (λ n. m.fronts.items ++ n ∷ []) is;
         goes = λ ls tried fs.
             call_found x t.goals (stack_of rest at j t.stack) t.bindings t.fresh m.steps m.events.items m.front ls tried (mode_of m.mode) c.goal i c.procedure f fs low high named
-            ∙ ap (λ (b : ℕ → Tree).
-            trying c.goal (candidate_clauses (part at j c) c.procedure (keys (substituted b c.goal)))
-            (state_with rest at j t (mode_of m.mode) m.steps m.events.items f (ls ++ record { before = m.front; front = f; call = call_of c.procedure (substituted b c.goal) } ∷ []) tried fs)) (sym moment)
             ∙ ap (λ cs. trying c.goal cs (state_with rest at j t (mode_of m.mode) m.steps m.events.items f (ls ++ look ∷ []) tried fs)) (sym opened.clauses)
             ∙ ap (trying c.goal (clauses_left rest at j c)) (again (ls ++ look ∷ []) tried fs)
             ∙ tries.tried (ls ++ look ∷ []) tried fs;

@@ -1,28 +1,45 @@
--- A call is left with its moment, and the newest is gone back to.
-use Rattle.std.proofs.Common.{◌≡◌, ℕ, List, [], ◌∷◌, ◌++◌, length, take, refl, sym, ap, ap₂, ◌∙◌, arith, subst}
-use Rattle.std.specs.Prelude.{map, reverse, IsTrue}
+-- A moment is saved, gone back to, and taken away.
+use Rattle.std.proofs.Common.{◌≡◌, ℕ, List, [], ◌∷◌, ◌++◌, length, take, refl, sym, ap, ◌∙◌, arith, subst}
+use Rattle.std.specs.Prelude.{map, reverse, Some, None}
 use Rattle.std.specs.Global.{Vec}
 use Rattle.std.proofs.lemmas.List.{length-take-le, map-append, reverse-append}
-use Rattle.prolog_terms.specs.Tree.{Tree}
-use Rattle.prolog_terms.specs.Clauses.{is_body}
 use Rattle.term_store.specs.Shape.{Shape}
 use Rattle.term_store.specs.declared.cell.Cell.{Cell}
 use Rattle.term_store.specs.declared.cell.Trailed.{Trailed}
-use Rattle.term_store.specs.Terms.{raw, meaning, HasTerm}
+use Rattle.term_store.specs.Terms.{raw, term_of, meaning, HasTerm}
 use Rattle.term_store.specs.Later.{back, CanGoBack}
-use Rattle.wam_machine.specs.declared.terms.Frame.{Frame}
+use Rattle.wam_machine.specs.Machine.{Next}
+use Rattle.wam_machine.specs.declared.terms.Alternative.{Alternative}
+use Rattle.wam_machine.specs.declared.terms.Alternative.TheVariants as is
+use Rattle.prolog_terms.specs.Tree.{Tree}
+use Rattle.wam_machine.specs.Choices.{IsCallOf}
 use Rattle.wam_machine.specs.declared.terms.Call.{Call}
+use Rattle.wam_machine.specs.declared.terms.Frame.{Frame}
 use Rattle.wam_machine.specs.declared.terms.Choice.{Choice}
 use Rattle.wam_machine.specs.declared.terms.Terms.{Terms}
-use Rattle.wam_machine.specs.Terms.{Left, said, built, call_now, IsBuilt, IsGoal, AreTerms, AreFrames, AreChoices, IsChoice, frame_at, goals_at, left_of}
+use Rattle.wam_machine.specs.Terms.{Saved, said, built, saved_now, saved_of, turn_of, IsBuilt, IsTurn, IsKeptTurn, KeepsCells, AreTerms, AreFrames, AreChoices, IsChoice, goals_at}
 use Rattle.wam_machine.proofs.Frames.{AreSame, lower, same_take, frames-take, goals_at-same}
 use Rattle.wam_machine.proofs.Backs.{raw-back, back-back, named-back}
-use Rattle.wam_machine.proofs.Stacks.{choices-same, lefts-same, by_reverse}
+use Rattle.wam_machine.proofs.Stacks.{choices-same, saved-same, choices-without, by_reverse}
 
 pub newest_first : {A : Type 0} (xs : List A) (x : A) → reverse (xs ++ x ∷ []) ≡ x ∷ reverse xs
 newest_first xs x = reverse-append xs (x ∷ [])
 
--- ---- a call is left
+turn-kept : {C : Type 0} (t : Terms C) (what : Alternative C) → IsTurn t what → IsKeptTurn t.names t.store what
+unfolding IsBuilt built
+turn-kept t (is.Clauses c) h = h
+turn-kept t (is.Right c cut) h = (h.built_is, h.body)
+turn-kept t is.Again h = tt
+turn-kept t is.NotMark h = tt
+
+kept-turn : {C : Type 0} (t : Terms C) (what : Alternative C) → IsKeptTurn t.names t.store what → IsTurn t what
+unfolding IsBuilt built
+kept-turn t (is.Clauses c) h = h
+kept-turn t (is.Right c cut) h = record { built_is = h.0; body = h.1 }
+kept-turn t is.Again h = tt
+kept-turn t is.NotMark h = tt
+
+-- ---- a moment is saved
 
 module _ {C : Type 0} (t : Terms C) (h : AreTerms t) (choices : Vec (Choice C)) where
   pub terms-choices : AreChoices t.names t.store t.frames.items (length t.frames.items) t.shown (reverse choices.items) → AreTerms (record t { choices = choices })
@@ -35,21 +52,19 @@ module _ {C : Type 0} (t : Terms C) (h : AreTerms t) (choices : Vec (Choice C)) 
     choices_are = kept;
   }
 
-  module _ (call : Call C) (is_goal : IsGoal t call.goal) (mark : Trailed) (can : CanGoBack mark t.store) (same : back mark t.store ≡ t.store) (frames : ℕ) (count : frames ≡ length t.frames.items)
-      (e : choices.items ≡ t.choices.items ++ record { call = call; next = t.next; frames = frames; mark = mark } ∷ []) where
-    left_now : IsChoice t.names t.store t.frames.items (record { call = call; next = t.next; frames = frames; mark = mark })
-    unfolding IsBuilt built
+  module _ (what : Alternative C) (is_turn : IsTurn t what) (mark : Trailed) (can : CanGoBack mark t.store) (same : back mark t.store ≡ t.store) (frames : ℕ) (count : frames ≡ length t.frames.items)
+      (e : choices.items ≡ t.choices.items ++ record { what = what; next = t.next; frames = frames; mark = mark } ∷ []) where
+    left_now : IsChoice t.names t.store t.frames.items (record { what = what; next = t.next; frames = frames; mark = mark })
     left_now = record {
       mark = can;
       next = let a = h.next_is in omega (arith, a, count);
       frames_are = subst (λ (s : Shape). AreFrames t.names s t.frames.items frames) (sym same)
           (subst (AreFrames t.names t.store t.frames.items) (sym count) h.frames_are);
-      goal_is = subst (λ (s : Shape). HasTerm (length t.names) s call.goal) (sym same) is_goal.built_is;
-      body = is_goal.body;
+      what = subst (λ (s : Shape). IsKeptTurn t.names s what) (sym same) (turn-kept t what is_turn);
     }
 
-    pub terms-leave : AreTerms (record t { choices = choices })
-    terms-leave =
+    pub terms-save : AreTerms (record t { choices = choices })
+    terms-save =
         terms-choices
         (subst (AreChoices t.names t.store t.frames.items (length t.frames.items) t.shown) (sym (ap reverse e ∙ newest_first t.choices.items _)) (
           left_now,
@@ -59,51 +74,43 @@ module _ {C : Type 0} (t : Terms C) (h : AreTerms t) (choices : Vec (Choice C)) 
               (subst (λ (n : ℕ). AreChoices t.names t.store t.frames.items n t.shown (reverse t.choices.items)) (sym count) h.choices_are),
         ))
 
-    pub said-leave : said (record t { choices = choices }) ≡ record (said t) { stack = (said t).stack ++ call_now t call ∷ [] }
+    pub said-save : said (record t { choices = choices }) ≡ record (said t) { stack = (said t).stack ++ saved_now t what ∷ [] }
     unfolding said built
-    said-leave =
-        ap (λ (ls : List (Left C)). record {
-          goals = goals_at (raw t.names t.store) t.frames.items t.next;
+    said-save =
+        ap (λ (ls : List (Saved C)). record {
+          goals = goals_at (term_of t.names t.store) t.frames.items t.next;
           bindings = meaning t.names t.store;
           fresh = t.store.variables;
           shown = raw t.names t.store t.shown;
           stack = ls;
         })
-        (ap (map (left_of t.names t.store t.frames.items)) e
-        ∙ map-append (left_of t.names t.store t.frames.items) t.choices.items _
-        ∙ ap (λ (s : Shape). map (left_of t.names t.store t.frames.items) t.choices.items ++ record {
-          goal = raw t.names t.store call.goal;
-          goals = goals_at (raw t.names t.store) t.frames.items t.next;
+        (ap (map (saved_of t.names t.store t.frames.items)) e
+        ∙ map-append (saved_of t.names t.store t.frames.items) t.choices.items _
+        ∙ ap (λ (s : Shape). map (saved_of t.names t.store t.frames.items) t.choices.items ++ record {
+          turn = turn_of (term_of t.names s) what;
+          goals = goals_at (term_of t.names s) t.frames.items t.next;
           bindings = meaning t.names s;
-          procedure = call.procedure;
-          cursor = call.cursor;
         } ∷ []) same)
 
-  -- none is left after all
+  -- nothing was saved after all
   module _ (e : choices.items ≡ t.choices.items) where
-    pub terms-unleft : AreTerms (record t { choices = choices })
-    terms-unleft = terms-choices (subst (λ (cs : List (Choice C)). AreChoices t.names t.store t.frames.items (length t.frames.items) t.shown (reverse cs)) (sym e) h.choices_are)
+    pub terms-unsaved : AreTerms (record t { choices = choices })
+    terms-unsaved = terms-choices (subst (λ (cs : List (Choice C)). AreChoices t.names t.store t.frames.items (length t.frames.items) t.shown (reverse cs)) (sym e) h.choices_are)
 
-    pub said-unleft : said (record t { choices = choices }) ≡ said t
+    pub said-unsaved : said (record t { choices = choices }) ≡ said t
     unfolding said
-    said-unleft =
+    said-unsaved =
         ap (λ (cs : List (Choice C)). record {
-          goals = goals_at (raw t.names t.store) t.frames.items t.next;
+          goals = goals_at (term_of t.names t.store) t.frames.items t.next;
           bindings = meaning t.names t.store;
           fresh = t.store.variables;
           shown = raw t.names t.store t.shown;
-          stack = map (left_of t.names t.store t.frames.items) cs;
+          stack = map (saved_of t.names t.store t.frames.items) cs;
         }) e
 
-pub goal-choices : {C : Type 0} (t : Terms C) (choices : Vec (Choice C)) (c : Cell) → IsGoal t c → IsGoal (record t { choices = choices }) c
+pub cells-choices : {C : Type 0} (t : Terms C) (choices : Vec (Choice C)) → KeepsCells t (record t { choices = choices })
 unfolding IsBuilt built
-goal-choices t choices c g = record { built_is = g.built_is; body = g.body }
-
-pub built-choices : {C : Type 0} (t : Terms C) (choices : Vec (Choice C)) (c : Cell) → built (record t { choices = choices }) c ≡ built t c
-unfolding built
-built-choices t choices c = refl
-
--- ---- the newest is gone back to
+cells-choices t choices c g = (g, refl)
 
 pub none_there : {A : Type 0} (xs : List A) → length xs ≡ 0 → xs ≡ []
 none_there [] e = refl
@@ -111,7 +118,9 @@ none_there (x ∷ xs) e = absurd (omega arith)
 
 pub stack-none : {C : Type 0} (t : Terms C) → t.choices.items ≡ [] → (said t).stack ≡ []
 unfolding said
-stack-none t e = ap (map (left_of t.names t.store t.frames.items)) e
+stack-none t e = ap (map (saved_of t.names t.store t.frames.items)) e
+
+-- ---- the newest is gone back to
 
 module _ {C : Type 0} (t : Terms C) (h : AreTerms t) (c : Choice C) (choices : Vec (Choice C)) (e : t.choices.items ≡ choices.items ++ c ∷ [])
     (frames : Vec Frame) (cut : frames.items ≡ take c.frames t.frames.items) where
@@ -123,9 +132,6 @@ module _ {C : Type 0} (t : Terms C) (h : AreTerms t) (c : Choice C) (choices : V
 
   same : AreSame t.frames.items frames.items c.frames
   same = subst (λ (l : List Frame). AreSame t.frames.items l c.frames) (sym cut) (same_take c.frames t.frames.items)
-
-  trees : (d : Cell) → HasTerm (length t.names) (back c.mark t.store) d → raw t.names (back c.mark t.store) d ≡ raw t.names t.store d
-  trees d w = raw-back t.names c.mark t.store all.0.mark d w.0
 
   abbrev gone : Terms C
   gone = record t { store = back c.mark t.store; frames = frames; next = c.next; choices = choices }
@@ -142,39 +148,31 @@ module _ {C : Type 0} (t : Terms C) (h : AreTerms t) (c : Choice C) (choices : V
         choices-same t.names (back c.mark t.store) t.frames.items frames.items t.shown c.frames (length frames.items) same (let b = count in omega (arith, b)) (reverse choices.items) all.3;
   }
 
-  older : map (left_of t.names (back c.mark t.store) frames.items) choices.items ≡ map (left_of t.names t.store t.frames.items) choices.items
+  older : map (saved_of t.names (back c.mark t.store) frames.items) choices.items ≡ map (saved_of t.names t.store t.frames.items) choices.items
   older =
-      by_reverse (left_of t.names (back c.mark t.store) frames.items) (left_of t.names t.store t.frames.items) choices.items
-      (lefts-same t.names t.store (back c.mark t.store) (back c.mark t.store) t.frames.items frames.items t.shown c.frames same
-      (λ d w. raw-back t.names c.mark t.store all.0.mark d w)
-      (λ m near. ap (meaning t.names) (back-back m c.mark t.store all.0.mark near)) (reverse choices.items) all.3)
+      by_reverse (saved_of t.names (back c.mark t.store) frames.items) (saved_of t.names t.store t.frames.items) choices.items
+      (saved-same t.names t.store (back c.mark t.store) (back c.mark t.store) t.frames.items frames.items t.shown c.frames same
+      (λ m near. (refl, sym (back-back m c.mark t.store all.0.mark near))) (reverse choices.items) all.3)
 
-  after : goals_at (raw t.names (back c.mark t.store)) frames.items c.next ≡ goals_at (raw t.names t.store) t.frames.items c.next
+  after : goals_at (term_of t.names (back c.mark t.store)) frames.items c.next ≡ goals_at (term_of t.names (back c.mark t.store)) t.frames.items c.next
   after =
-      goals_at-same (raw t.names t.store) (raw t.names (back c.mark t.store)) t.frames.items frames.items c.frames
-      (lower t.names (back c.mark t.store) t.frames.items c.frames all.0.frames_are) same
-      (λ i less. trees (frame_at t.frames.items i).goal (all.0.frames_are i less).goal_is) c.next all.0.next
+      goals_at-same (term_of t.names (back c.mark t.store)) (term_of t.names (back c.mark t.store)) t.frames.items frames.items c.frames
+      (lower t.names (back c.mark t.store) t.frames.items c.frames all.0.frames_are) same (λ _ _. refl) c.next all.0.next
 
-  stack-gone : (said t).stack ≡ (said gone).stack ++ call_now gone c.call ∷ []
+  stack-gone : (said t).stack ≡ (said gone).stack ++ saved_now gone c.what ∷ []
   unfolding said built
   stack-gone =
-      ap (map (left_of t.names t.store t.frames.items)) e
-      ∙ map-append (left_of t.names t.store t.frames.items) choices.items (c ∷ [])
-      ∙ ap (λ (ls : List (Left C)). ls ++ left_of t.names t.store t.frames.items c ∷ []) (sym older)
-      ∙ ap₂ (λ (u : Tree) (us : List Tree). map (left_of t.names (back c.mark t.store) frames.items) choices.items ++ record {
-        goal = u;
+      ap (map (saved_of t.names t.store t.frames.items)) e
+      ∙ map-append (saved_of t.names t.store t.frames.items) choices.items (c ∷ [])
+      ∙ ap (λ (ls : List (Saved C)). ls ++ saved_of t.names t.store t.frames.items c ∷ []) (sym older)
+      ∙ ap (λ (us : List Next). map (saved_of t.names (back c.mark t.store) frames.items) choices.items ++ record {
+        turn = turn_of (term_of t.names (back c.mark t.store)) c.what;
         goals = us;
         bindings = meaning t.names (back c.mark t.store);
-        procedure = c.call.procedure;
-        cursor = c.call.cursor;
-      } ∷ []) (sym (trees c.call.goal all.0.goal_is)) (sym after)
+      } ∷ []) (sym after)
 
-  goal-gone : IsGoal gone c.call.goal
-  unfolding IsBuilt built
-  goal-gone = record {
-    built_is = all.0.goal_is;
-    body = subst (λ (u : Tree). IsTrue (is_body u)) (sym (trees c.call.goal all.0.goal_is)) all.0.body;
-  }
+  turn-gone : IsTurn gone c.what
+  turn-gone = kept-turn gone c.what all.0.what
 
   fresh-gone : (said gone).fresh ≡ (said t).fresh
   unfolding said
@@ -182,7 +180,7 @@ module _ {C : Type 0} (t : Terms C) (h : AreTerms t) (c : Choice C) (choices : V
 
   shown-gone : (said gone).shown ≡ (said t).shown
   unfolding said
-  shown-gone = trees t.shown all.2
+  shown-gone = raw-back t.names c.mark t.store all.0.mark t.shown all.2.0
 
   -- the store is what it is at the mark
   module _ (store : Shape) (is : store ≡ back c.mark t.store) where
@@ -190,13 +188,13 @@ module _ {C : Type 0} (t : Terms C) (h : AreTerms t) (c : Choice C) (choices : V
     terms-back = subst (λ (s : Shape). AreTerms (record t { store = s; frames = frames; next = c.next; choices = choices })) (sym is) terms-gone
 
     pub stack-back : (said t).stack ≡ (said (record t { store = store; frames = frames; next = c.next; choices = choices })).stack
-        ++ call_now (record t { store = store; frames = frames; next = c.next; choices = choices }) c.call ∷ []
+        ++ saved_now (record t { store = store; frames = frames; next = c.next; choices = choices }) c.what ∷ []
     stack-back =
         subst (λ (s : Shape). (said t).stack ≡ (said (record t { store = s; frames = frames; next = c.next; choices = choices })).stack
-        ++ call_now (record t { store = s; frames = frames; next = c.next; choices = choices }) c.call ∷ []) (sym is) stack-gone
+        ++ saved_now (record t { store = s; frames = frames; next = c.next; choices = choices }) c.what ∷ []) (sym is) stack-gone
 
-    pub goal-back : IsGoal (record t { store = store; frames = frames; next = c.next; choices = choices }) c.call.goal
-    goal-back = subst (λ (s : Shape). IsGoal (record t { store = s; frames = frames; next = c.next; choices = choices }) c.call.goal) (sym is) goal-gone
+    pub turn-back : IsTurn (record t { store = store; frames = frames; next = c.next; choices = choices }) c.what
+    turn-back = subst (λ (s : Shape). IsTurn (record t { store = s; frames = frames; next = c.next; choices = choices }) c.what) (sym is) turn-gone
 
     pub fresh-back : (said (record t { store = store; frames = frames; next = c.next; choices = choices })).fresh ≡ (said t).fresh
     fresh-back = subst (λ (s : Shape). (said (record t { store = s; frames = frames; next = c.next; choices = choices })).fresh ≡ (said t).fresh) (sym is) fresh-gone
@@ -210,3 +208,33 @@ can_go t h c choices e =
     subst (AreChoices t.names t.store t.frames.items (length t.frames.items) t.shown) (ap reverse e ∙ newest_first choices.items c) h.choices_are
     in
     all.0.mark
+
+-- ---- the newest is taken away
+
+module _ {C : Type 0} (t : Terms C) (c : Choice C) (choices : Vec (Choice C)) (e : t.choices.items ≡ choices.items ++ c ∷ []) where
+  pub terms-dropped : AreTerms t → AreTerms (record t { choices = choices })
+  terms-dropped h =
+      terms-choices t h choices
+      (choices-without t.names t.store t.frames.items t.shown (length t.frames.items) c (reverse choices.items)
+      (subst (AreChoices t.names t.store t.frames.items (length t.frames.items) t.shown) (ap reverse e ∙ newest_first choices.items c) h.choices_are))
+
+  pub said-dropped : said (record t { choices = choices }) ≡ record (said t) { stack = (said (record t { choices = choices })).stack }
+  unfolding said
+  said-dropped = refl
+
+  pub stack-dropped : (said t).stack ≡ (said (record t { choices = choices })).stack ++ saved_of t.names t.store t.frames.items c ∷ []
+  unfolding said
+  stack-dropped = ap (map (saved_of t.names t.store t.frames.items)) e ∙ map-append (saved_of t.names t.store t.frames.items) choices.items (c ∷ [])
+
+-- the call that is handed back is the moment's
+pub dropped-call : {C : Type 0} (tree : Cell → Tree) (what : Alternative C) (call : Call C) → what ≡ is.Clauses call → IsCallOf (turn_of tree what) (Some call)
+dropped-call tree what call e = subst (λ (w : Alternative _). IsCallOf (turn_of tree w) (Some call)) (sym e) refl
+
+pub dropped-right : {C : Type 0} (tree : Cell → Tree) (what : Alternative C) (c : Cell) (cut : ℕ) → what ≡ is.Right c cut → IsCallOf (turn_of tree what) None
+dropped-right tree what c cut e = subst (λ (w : Alternative _). IsCallOf (turn_of tree w) None) (sym e) tt
+
+pub dropped-again : {C : Type 0} (tree : Cell → Tree) (what : Alternative C) → what ≡ is.Again → IsCallOf (turn_of tree what) None
+dropped-again tree what e = subst (λ (w : Alternative _). IsCallOf (turn_of tree w) None) (sym e) tt
+
+pub dropped-not : {C : Type 0} (tree : Cell → Tree) (what : Alternative C) → what ≡ is.NotMark → IsCallOf (turn_of tree what) None
+dropped-not tree what e = subst (λ (w : Alternative _). IsCallOf (turn_of tree w) None) (sym e) tt

@@ -3,17 +3,31 @@ use Rattle.std.proofs.Common.{◌≡◌, ℕ, suc, ◌<◌, ◌≤◌, List, [],
 use Rattle.std.specs.Prelude.{map, reverse, Result, Ok, Err, OnErr}
 use Rattle.std.specs.Global.{Vec}
 use Rattle.std.proofs.Math.Seq.{get_or-append_seam}
-use Rattle.prolog_terms.specs.Tree.{Tree}
-use Rattle.term_store.specs.declared.cell.Cell.{Cell}
-use Rattle.term_store.specs.Terms.{raw, meaning}
+use Rattle.wam_machine.specs.Machine.{Next}
+use Rattle.term_store.specs.Terms.{raw, term_of, meaning}
 use Rattle.wam_machine.specs.declared.terms.Frame.{Frame}
 use Rattle.wam_machine.specs.declared.terms.Choice.{Choice}
 use Rattle.wam_machine.specs.declared.terms.Terms.{Terms}
-use Rattle.wam_machine.specs.Terms.{Left, said, built, IsBuilt, IsGoal, AreTerms, AreFrames, AreChoices, frame_at, frames_kept, goals_at, left_of, IsFrame}
+use Rattle.wam_machine.specs.declared.terms.Next.{Next as Waiting}
+use Rattle.wam_machine.specs.declared.terms.Next.TheVariants as waits
+use Rattle.wam_machine.specs.Terms.{Saved, said, built, IsBuilt, IsNext, IsWaiting, AreTerms, AreFrames, AreChoices, KeepsCells, frame_at, frames_kept, goals_at, next_of, next_now, saved_of, IsFrame}
 use Rattle.wam_machine.proofs.Frames.{AreSame, lower, same_more, frames-more, goals_at-same, goals_at-next}
-use Rattle.wam_machine.proofs.Stacks.{choices-same, lefts-same, by_reverse}
+use Rattle.wam_machine.proofs.Stacks.{choices-same, saved-same, by_reverse}
 
--- the calls with clauses left need no more than those that they keep
+-- what is to be done, as it is kept
+pub waiting-now : {C : Type 0} (t : Terms C) (what : Waiting) → IsNext t what → IsWaiting t.names t.store what
+unfolding IsBuilt built
+waiting-now t (waits.Do c h) g = (g.built_is, g.body)
+waiting-now t (waits.ConditionEnd h) g = tt
+waiting-now t (waits.NotEnd h) g = tt
+
+pub next-waiting : {C : Type 0} (t : Terms C) (what : Waiting) → IsWaiting t.names t.store what → IsNext t what
+unfolding IsBuilt built
+next-waiting t (waits.Do c h) g = record { built_is = g.0; body = g.1 }
+next-waiting t (waits.ConditionEnd h) g = tt
+next-waiting t (waits.NotEnd h) g = tt
+
+-- the moments that may be gone back to need no more than those that they keep
 pub choices-kept : {C : Type 0} (t : Terms C) (n m : ℕ) (cs : List (Choice C)) → frames_kept cs ≤ m
     → AreChoices t.names t.store t.frames.items n t.shown cs → AreChoices t.names t.store t.frames.items m t.shown cs
 choices-kept t n m [] le h = tt
@@ -35,39 +49,38 @@ module _ {C : Type 0} (t : Terms C) (h : AreTerms t) (frames : Vec Frame) (next 
 
   pub said-frames : (m : ℕ) → AreSame t.frames.items frames.items m
       → AreChoices t.names t.store t.frames.items m t.shown (reverse t.choices.items)
-      → (goals : List Tree) → goals_at (raw t.names t.store) frames.items next ≡ goals
+      → (goals : List Next) → goals_at (term_of t.names t.store) frames.items next ≡ goals
       → said (record t { frames = frames; next = next }) ≡ record (said t) { goals = goals }
   unfolding said
   said-frames m same choices goals e =
-      ap (λ (gs : List Tree). record {
+      ap (λ (gs : List Next). record {
         goals = gs;
         bindings = meaning t.names t.store;
         fresh = t.store.variables;
         shown = raw t.names t.store t.shown;
-        stack = map (left_of t.names t.store frames.items) t.choices.items;
+        stack = map (saved_of t.names t.store frames.items) t.choices.items;
       }) e
-      ∙ ap (λ (ls : List (Left C)). record {
+      ∙ ap (λ (ls : List (Saved C)). record {
         goals = goals;
         bindings = meaning t.names t.store;
         fresh = t.store.variables;
         shown = raw t.names t.store t.shown;
         stack = ls;
       })
-      (by_reverse (left_of t.names t.store frames.items) (left_of t.names t.store t.frames.items) t.choices.items
-      (lefts-same t.names t.store t.store t.store t.frames.items frames.items t.shown m same (λ _ _. refl) (λ _ _. refl) (reverse t.choices.items) choices))
+      (by_reverse (saved_of t.names t.store frames.items) (saved_of t.names t.store t.frames.items) t.choices.items
+      (saved-same t.names t.store t.store t.store t.frames.items frames.items t.shown m same (λ _ _. (refl, refl)) (reverse t.choices.items) choices))
 
   -- ---- a goal is put
 
-  module _ (goal : Cell) (is_goal : IsGoal t goal) (e : frames.items ≡ t.frames.items ++ record { goal = goal; next = t.next } ∷ []) (n : next ≡ length frames.items) where
+  module _ (what : Waiting) (is_next : IsNext t what) (e : frames.items ≡ t.frames.items ++ record { what = what; next = t.next } ∷ []) (n : next ≡ length frames.items) where
     pushed-same : AreSame t.frames.items frames.items (length t.frames.items)
     pushed-same = subst (λ (l : List Frame). AreSame t.frames.items l (length t.frames.items)) (sym e) (same_more t.frames.items _)
 
     pushed-length : next ≡ suc (length t.frames.items)
-    pushed-length = let a = length-append t.frames.items (record { goal = goal; next = t.next } ∷ []) in let b = ap length e in omega (arith, a, b, n)
+    pushed-length = let a = length-append t.frames.items (record { what = what; next = t.next } ∷ []) in let b = ap length e in omega (arith, a, b, n)
 
-    pushed-frame : IsFrame (length t.names) t.names t.store (length t.frames.items) (record { goal = goal; next = t.next })
-    unfolding IsBuilt built
-    pushed-frame = record { lower = h.next_is; goal_is = is_goal.built_is; body = is_goal.body }
+    pushed-frame : IsFrame t.names t.store (length t.frames.items) (record { what = what; next = t.next })
+    pushed-frame = record { lower = h.next_is; what = waiting-now t what is_next }
 
     pushed-frames : AreFrames t.names t.store frames.items (length frames.items)
     pushed-frames = subst (λ (l : List Frame). AreFrames t.names t.store l (length l)) (sym e) (frames-more t.names t.store t.frames.items _ pushed-frame h.frames_are)
@@ -76,21 +89,21 @@ module _ {C : Type 0} (t : Terms C) (h : AreTerms t) (frames : Vec Frame) (next 
     terms-push =
         terms-frames (length t.frames.items) pushed-same (let a = pushed-length in omega (arith, a, n)) h.choices_are pushed-frames (omega (arith, n))
 
-    pushed-goals : goals_at (raw t.names t.store) frames.items next ≡ built t goal ∷ (said t).goals
+    pushed-goals : goals_at (term_of t.names t.store) frames.items next ≡ next_now t what ∷ (said t).goals
     unfolding said built
     pushed-goals =
-        let last : frame_at frames.items (length t.frames.items) ≡ record { goal = goal; next = t.next } =
+        let last : frame_at frames.items (length t.frames.items) ≡ record { what = what; next = t.next } =
         ap (λ (l : List Frame). frame_at l (length t.frames.items)) e ∙ get_or-append_seam t.frames.items _ [] (frame_at [] 0)
         in
         let less : length t.frames.items < length frames.items = let a = pushed-length in omega (arith, a, n) in
-        ap (λ (k : ℕ). goals_at (raw t.names t.store) frames.items k) pushed-length
-        ∙ goals_at-next (raw t.names t.store) frames.items (length frames.items) (length t.frames.items) (lower t.names t.store frames.items (length frames.items) pushed-frames) less
-        ∙ ap (λ (f : Frame). raw t.names t.store f.goal ∷ goals_at (raw t.names t.store) frames.items f.next) last
-        ∙ ap (λ (gs : List Tree). raw t.names t.store goal ∷ gs)
-        (goals_at-same (raw t.names t.store) (raw t.names t.store) t.frames.items frames.items (length t.frames.items)
+        ap (λ (k : ℕ). goals_at (term_of t.names t.store) frames.items k) pushed-length
+        ∙ goals_at-next (term_of t.names t.store) frames.items (length frames.items) (length t.frames.items) (lower t.names t.store frames.items (length frames.items) pushed-frames) less
+        ∙ ap (λ (f : Frame). next_of (term_of t.names t.store) f.what ∷ goals_at (term_of t.names t.store) frames.items f.next) last
+        ∙ ap (λ (gs : List Next). next_of (term_of t.names t.store) what ∷ gs)
+        (goals_at-same (term_of t.names t.store) (term_of t.names t.store) t.frames.items frames.items (length t.frames.items)
         (lower t.names t.store t.frames.items (length t.frames.items) h.frames_are) pushed-same (λ _ _. refl) t.next h.next_is)
 
-    pub said-push : said (record t { frames = frames; next = next }) ≡ record (said t) { goals = built t goal ∷ (said t).goals }
+    pub said-push : said (record t { frames = frames; next = next }) ≡ record (said t) { goals = next_now t what ∷ (said t).goals }
     said-push = said-frames (length t.frames.items) pushed-same h.choices_are _ pushed-goals
 
   -- ---- nothing is put
@@ -109,13 +122,12 @@ module _ {C : Type 0} (t : Terms C) (h : AreTerms t) (frames : Vec Frame) (next 
     unfolding said
     said-stay =
         said-frames (length t.frames.items) stays-same h.choices_are (said t).goals
-        (ap (λ (l : List Frame). goals_at (raw t.names t.store) l next) e ∙ ap (goals_at (raw t.names t.store) t.frames.items) n)
+        (ap (λ (l : List Frame). goals_at (term_of t.names t.store) l next) e ∙ ap (goals_at (term_of t.names t.store) t.frames.items) n)
 
 -- cells are what they were whatever the frames are
-pub cells-frames : {C : Type 0} (t : Terms C) (frames : Vec Frame) (next : ℕ) (c : Cell) → IsGoal t c
-    → IsGoal (record t { frames = frames; next = next }) c × (built (record t { frames = frames; next = next }) c ≡ built t c)
+pub cells-frames : {C : Type 0} (t : Terms C) (frames : Vec Frame) (next : ℕ) → KeepsCells t (record t { frames = frames; next = next })
 unfolding IsBuilt built
-cells-frames t frames next c g = (record { built_is = g.built_is; body = g.body }, refl)
+cells-frames t frames next c g = (g, refl)
 
 -- what holds anyway holds at an error
 pub at_err : {T E P : Type 0} (r : Result T E) → P → OnErr r P

@@ -8,7 +8,7 @@ use Rattle.journal_base.specs.Journal.{Journal, number_of, procedure_named, proc
 use Rattle.std.proofs.lemmas.List.Elements.{All-nil}
 use Rattle.journal_base.specs.View.{View, IsSound, Looks, Out, none_out}
 use Rattle.wam_machine.specs.Cursors.{goal_of, AreNamed}
-use Rattle.wam_machine.specs.Terms.{Said}
+use Rattle.wam_machine.specs.Terms.{Said, calls_in}
 use Rattle.wam_machine.specs.View.{IsReady, IsBeginning, AreKept, calls}
 use Rattle.wam_machine.specs.declared.run.Goal.{Goal as Started}
 use Rattle.wam_machine.specs.declared.state.Machine.{Machine}
@@ -84,7 +84,7 @@ found_number J i p k found = go (number_of J i) refl
 
 -- no call is left
 no_calls : {C : Type 0} (start : ℕ) (goal : Started) (m : Machine C) → IsBeginning goal start m → calls m ≡ []
-no_calls start goal m b = ap (λ (t : Said _). t.stack) b.said_is
+no_calls start goal m b = ap (λ (t : Said _). calls_in t.stack) b.said_is
 
 pub ready_at_first : {C : Type 0} (v : View) (serves : C → Goal → Type 0) (group : C → ℕ) (out : Out) (rest : C → Goal → Journal → List ℕ) (may : C → Goal → Journal → ℕ) (at : C → ℕ)
     (budget start : ℕ) (goal : Started) (m : Machine C) → IsSound v → IsBeginning goal start m → start ≡ v.seen → out ≡ none_out → IsReady v serves group out rest may at budget m

@@ -37,7 +37,7 @@ nothing_listed names s c shown n named has e whole =
       term = e ∙ ap shown_list (sym (drop_of_length-le shown past));
     }
 
-text_low : (names : List (List ℕ)) (n : ℕ) (t : List ℕ) → slice_get names n ≡ Some t → n < length names
+pub text_low : (names : List (List ℕ)) (n : ℕ) (t : List ℕ) → slice_get names n ≡ Some t → n < length names
 text_low [] n t e = absurd (cc)
 text_low (x ∷ xs) zero t e = omega arith
 text_low (x ∷ xs) (suc n) t e = let low : n < length xs = text_low xs n t e in omega arith

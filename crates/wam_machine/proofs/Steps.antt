@@ -71,4 +71,3 @@ module _ {C : Type 0} (rest : C → Goal → Journal → List ℕ) (may : C → 
     tally_is = d.tally_is ∙ tally;
     ends = λ made looks tried. leads looks tried [] ∙ d.ends made looks tried;
   }
-  -- ---- from the goals that are left, or none, to the move

@@ -1,30 +1,108 @@
--- What a goal is (docs/LANGUAGE.md, "Goals and steps").
-use Rattle.std.specs.Prelude.{ℕ, ◌+◌, Bool, false, List, [], ◌∷◌, if◌then◌else◌, Option, Some, None, codes}
-use Rattle.prolog_terms.specs.Tree.{Tree, variable, integer, atom, compound, none, more, count}
-use Rattle.prolog_terms.specs.Clauses.{is_named}
+-- What a goal is, and which terms are bodies (docs/LANGUAGE.md, "Goals and steps"; ISO/IEC 13211-1, 7.6.2 and 7.8).
+use Rattle.std.specs.Prelude.{ℕ, ◌+◌, Bool, false, ◌&&◌, List, [], ◌∷◌, if◌then◌else◌, nat_lt, Option, Some, None, codes}
+use Rattle.prolog_terms.specs.Tree.{Tree, Trees, variable, integer, atom, compound, none, more, count}
+use Rattle.prolog_terms.specs.Clauses.{is_named, call_term, body_of}
+use Rattle.prolog_terms.specs.Faults.{two}
 use Rattle.prolog_terms.specs.declared.entry.Indicator.{Indicator}
 
 pub data Control : Type 0 where
   True : Control
+  Fail : Control
+  -- the alternatives since the clause, or the local scope, began are taken away
+  Cut : Control
+  Repeat : Control
   -- a conjunction: one goal, and then the other
   Both : (left right : Tree) → Control
+  -- one goal, with the other as an alternative
+  Either : (left right : Tree) → Control
+  -- the first answer of a condition, and then one goal; the other where it has none
+  IfElse : (condition then_ else_ : Tree) → Control
+  -- the same without the other
+  If : (condition then_ : Tree) → Control
+  -- what has no answer
+  Not : (goal : Tree) → Control
+  -- a goal with arguments added
+  Call : (goal : Tree) (added : Trees) → Control
+  Once : (goal : Tree) → Control
   -- two terms are to be made one
   Equal : (left right : Tree) → Control
   -- any other goal, by its name and arity
   User : Indicator → Control
 
+abbrev pub control_with_none : List ℕ → Control
+control_with_none a =
+    if is_named (codes "true") a then True
+    else if is_named (codes "fail") a then Fail
+    else if is_named (codes "!") a then Cut
+    else if is_named (codes "repeat") a then Repeat
+    else User (record { name = a; arity = 0 })
+
+abbrev pub control_with_one : List ℕ → Tree → Control
+control_with_one f a =
+    if is_named (codes "call") f then Call a none
+    else if is_named (codes "once") f then Once a
+    else if is_named (codes "\\+") f then Not a
+    else User (record { name = f; arity = 1 })
+
+-- a `;`: a condition with an else where the left side is a `->`
+abbrev pub control_of_either : Tree → Tree → Control
+control_of_either (variable n) e = Either (variable n) e
+control_of_either (integer z) e = Either (integer z) e
+control_of_either (atom a) e = Either (atom a) e
+control_of_either (compound f none) e = Either (compound f none) e
+control_of_either (compound f (more c none)) e = Either (compound f (more c none)) e
+control_of_either (compound f (more c (more t none))) e = if is_named (codes "->") f then IfElse c t e else Either (two f c t) e
+control_of_either (compound f (more c (more t (more u us)))) e = Either (compound f (more c (more t (more u us)))) e
+
 abbrev pub control_with_two : List ℕ → Tree → Tree → Control
-control_with_two f a b = if is_named (codes ",") f then Both a b else (if is_named (codes "=") f then Equal a b else User (record { name = f; arity = 2 }))
+control_with_two f a b =
+    if is_named (codes ",") f then Both a b
+    else if is_named (codes ";") f then control_of_either a b
+    else if is_named (codes "->") f then If a b
+    else if is_named (codes "=") f then Equal a b
+    else if is_named (codes "call") f then Call a (more b none)
+    else User (record { name = f; arity = 2 })
+
+-- with three arguments or more: `call` takes up to seven beside its goal
+abbrev pub control_with_more : List ℕ → Tree → Trees → Control
+control_with_more f a ts = if is_named (codes "call") f && nat_lt (count ts) 8 then Call a ts else User (record { name = f; arity = count ts + 1 })
 
 -- what a goal is; none for a variable and a number
 abbrev pub control_of : Tree → Option Control
 control_of (variable n) = None
 control_of (integer z) = None
-control_of (atom a) = Some (if is_named (codes "true") a then True else User (record { name = a; arity = 0 }))
+control_of (atom a) = Some (control_with_none a)
 control_of (compound f none) = Some (User (record { name = f; arity = 0 }))
-control_of (compound f (more a none)) = Some (User (record { name = f; arity = 1 }))
+control_of (compound f (more a none)) = Some (control_with_one f a)
 control_of (compound f (more a (more b none))) = Some (control_with_two f a b)
-control_of (compound f (more a (more b (more c ts)))) = Some (User (record { name = f; arity = count ts + 3 }))
+control_of (compound f (more a (more b (more c ts)))) = Some (control_with_more f a (more b (more c ts)))
+
+-- ---- bodies
+
+abbrev pub or_call : Tree → Option Tree → Tree
+or_call goal None = call_term goal
+or_call goal (Some body) = body
+
+-- the body as which a goal is run at first: `call` of it where it can't be a body
+abbrev pub first_body : Tree → Tree
+first_body goal = or_call goal (body_of goal)
+
+abbrev pub joined : Trees → Trees → Trees
+joined none us = us
+joined (more t ts) us = more t (joined ts us)
+
+abbrev pub atom_with : List ℕ → Trees → Tree
+atom_with a none = atom a
+atom_with a (more t ts) = compound a (more t ts)
+
+-- a goal with arguments added behind its own; a variable and an integer take none
+abbrev pub with_added : Tree → Trees → Tree
+with_added (variable n) added = variable n
+with_added (integer z) added = integer z
+with_added (atom a) added = atom_with a added
+with_added (compound f ts) added = compound f (joined ts added)
+
+-- ---- clauses
 
 abbrev pub is_true_atom : Tree → Bool
 is_true_atom (variable n) = false

@@ -1,7 +1,5 @@
 -- Calls over a base, as seen from one journal.
 use Rattle.std.specs.Prelude.{◌≡◌, ℕ, ◌+◌, ◌≤◌, List, take, All, filter_map, IsSome}
-use Rattle.prolog_terms.specs.Tree.{Tree}
-use Rattle.prolog_terms.specs.Substitutions.{substituted}
 use Rattle.prolog_terms.specs.declared.entry.Clause.{Clause}
 use Rattle.journal_base.specs.Keys.{keys}
 use Rattle.journal_base.specs.Calls.{Goal}
@@ -20,13 +18,9 @@ pub record Begins (v : View) (j : Journal) : Type 0 where
   pub stands : v.stands_for journal
   pub same : take v.seen j ≡ take v.seen journal
 
--- what a call's goal stood for at its moment
-abbrev pub asked : {C : Type 0} → Left C → Tree
-asked c = substituted c.bindings c.goal
-
 -- what a call looks for
 abbrev pub goal_of : {C : Type 0} → Left C → Goal
-goal_of c = call_of c.procedure (asked c)
+goal_of c = call_of c.procedure c.goal
 
 -- the part of the journal that was seen when the call looked
 abbrev pub part : {C : Type 0} → (C → ℕ) → Journal → Left C → Journal
@@ -51,7 +45,7 @@ AreNamed rest at j c = All (λ k. IsSome (clause_named (part at j c) k)) (names_
 -- A call has been looked up, at a front, after this one: the clauses that are left are its candidates.
 pub record IsOpened {C : Type 0} (rest : C → Goal → Journal → List ℕ) (may : C → Goal → Journal → ℕ) (at : C → ℕ) (causes : List ℕ) (before : ℕ) (j : Journal)
     (c : Left C) (how : How) (old new : Tally) : Type 0 where
-  pub clauses : clauses_left rest at j c ≡ candidate_clauses (part at j c) c.procedure (keys (asked c))
+  pub clauses : clauses_left rest at j c ≡ candidate_clauses (part at j c) c.procedure (keys c.goal)
   pub named : AreNamed rest at j c
   pub fair : IsFairLook causes j (record { before = before; front = at c.cursor; call = goal_of c }) how
   pub most : new.visits + visits_left may at j c ≤ old.visits + allowance (part at j c) (goal_of c) how

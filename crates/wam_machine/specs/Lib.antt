@@ -1,7 +1,9 @@
 pub mod Control
+pub mod Spine
 pub mod Machine
 pub mod Runs
 pub mod Terms
+pub mod Choices
 pub mod Goals
 pub mod Beyond
 pub mod Cursors

@@ -1,22 +1,28 @@
 -- The abstract machine (docs/LANGUAGE.md, "Goals and steps"): its states, one move, a whole run, and the transcript of a goal
 -- over a journal. It takes no notice of how clauses are found: a call tries its candidates, one after another.
-use Rattle.std.specs.Prelude.{◌≡◌, ℕ, suc, ◌+◌, ◌≤◌, Bool, true, false, ◌==◌, ◌&&◌, List, [], ◌∷◌, ◌++◌, length, take, drop, nat_le, if◌then◌else◌, Option, Some, None, codes, filter_map, map}
+--
+-- The goals that are still to be done stand with what their variables stand for: what is bound further is put into them too. So a
+-- state says nothing of how terms and bindings are kept.
+use Rattle.std.specs.Prelude.{IsTrue, IfSome, IsSome, All, ◌≡◌, ℕ, suc, ◌+◌, ◌-◌, ◌≤◌, ◌⊎◌, Bool, true, false, ◌==◌, ◌&&◌, List, [], ◌∷◌, ◌++◌, length, replicate, take, drop, nat_le, nat_lt, if◌then◌else◌, Option, Some, None, codes, filter_map, map}
 use Rattle.std.specs.List.{list_any}
-use Rattle.prolog_terms.specs.Tree.{Tree, variable, atom, compound, none, more}
+use Rattle.prolog_terms.specs.Tree.{Tree, Trees, variable, integer, atom, compound, none, more, count}
 use Rattle.prolog_terms.specs.Substitutions.{substituted, numbered, renamed, beyond}
-use Rattle.prolog_terms.specs.Faults.{fault_tree}
+use Rattle.prolog_terms.specs.Clauses.{is_body, call_term, body_of}
+use Rattle.prolog_terms.specs.Faults.{two, fault_tree}
 use Rattle.prolog_terms.specs.declared.entry.Clause.{Clause}
 use Rattle.prolog_terms.specs.declared.entry.Entry.{Entry}
 use Rattle.prolog_terms.specs.declared.entry.Indicator.{Indicator}
-use Rattle.prolog_terms.specs.declared.fault.Fault.TheVariants.{Existence}
+use Rattle.prolog_terms.specs.declared.fault.Fault.{Fault}
+use Rattle.prolog_terms.specs.declared.fault.Fault.TheVariants.{Instantiation, OfType, Existence, Representation}
 use Rattle.prolog_terms.specs.declared.shown.Shown.{Shown}
 use Rattle.journal_base.specs.Keys.{GoalKeys, keys}
-use Rattle.journal_base.specs.Journal.{Journal, number_of, clause_named}
+use Rattle.journal_base.specs.Journal.{Journal, number_of, clause_named, added}
+use Rattle.journal_base.specs.Legal.{Legal}
 use Rattle.journal_base.specs.Candidates.{candidates}
 use Rattle.journal_base.specs.Calls.{Goal}
 use Rattle.journal_base.specs.View.{entries_by}
 use Rattle.term_unifier.specs.Unifier.{unifier}
-use Rattle.wam_machine.specs.Control.{Control, True, Both, Equal, User, control_of, body_goals}
+use Rattle.wam_machine.specs.Control.{Control, True, Fail, Cut, Repeat, Both, Either, IfElse, If, Not, Call, Once, Equal, User, control_of, first_body, with_added, body_goals}
 use Rattle.wam_machine.specs.declared.run.Event.{Event}
 use Rattle.wam_machine.specs.declared.run.Event.TheVariants.{Answer}
 use Rattle.wam_machine.specs.declared.run.RunEnd.{RunEnd}
@@ -24,19 +30,35 @@ use Rattle.wam_machine.specs.declared.run.RunEnd.TheVariants.{Exhausted, Ball, S
 
 -- ---- states
 
+-- what is still to be done
+pub data Next : Type 0 where
+  -- a goal, and the height of the stack to which its cut goes back
+  Do : (goal : Tree) (cut : ℕ) → Next
+  -- the end of a condition, and the height of the stack before it
+  ConditionEnd : (height : ℕ) → Next
+  -- the end of the goal of a `\+`, and the height of the stack before it
+  NotEnd : (height : ℕ) → Next
+
 pub data Alternative : Type 0 where
   -- the clauses that are left of a call
   Clauses : (goal : Tree) (rest : List Clause) → Alternative
+  -- the right side of a `;`, or an else
+  Right : (goal : Tree) (cut : ℕ) → Alternative
+  -- a further turn of `repeat`
+  Again : Alternative
+  -- The mark of a `\+`, which is no alternative: a failure that reaches it goes on behind the `\+`.
+  NotMark : Alternative
 
--- an alternative, with the goals that come after it and what each variable stood for at its moment
+-- an alternative, or a mark, with the goals that come after it and what each variable stood for at its moment
 pub record Choice : Type 0 where
   pub what : Alternative
-  pub goals : List Tree
+  pub goals : List Next
   pub bindings : ℕ → Tree
 
 pub data Mode : Type 0 where
   Going : Mode
   Failing : Mode
+  -- a ball, its variables numbered from 0
   Raising : (ball : Tree) → Mode
 
 -- a call's moment: the front that was taken before, the front at which it looked, and what it looked for
@@ -48,8 +70,8 @@ pub record Look : Type 0 where
 pub record State : Type 0 where
   pub mode : Mode
   -- what is still to be done, first things first
-  pub goals : List Tree
-  -- the alternatives, the newest first
+  pub goals : List Next
+  -- the alternatives and marks, the newest first
   pub stack : List Choice
   -- what each variable stands for
   pub bindings : ℕ → Tree
@@ -122,25 +144,46 @@ taking x s with =
 abbrev pub fails : State → Outcome
 fails s = Goes (record s { mode = Failing })
 
+-- an error, at the name and arity of the call that raises it; its culprit has variables of its own
+abbrev pub raises : Fault → Indicator → State → Outcome
+raises fault at s = Goes (record s { mode = Raising (fault_tree fault at) })
+
+-- these come first
+abbrev pub onwards : List Next → State → Outcome
+onwards new s = Goes (record s { goals = new ++ s.goals })
+
+-- ---- the stack
+
+abbrev pub height : State → ℕ
+height s = length s.stack
+
+-- what is above a height is taken away
+abbrev pub cut_to : ℕ → List Choice → List Choice
+cut_to h stack = drop (length stack - h) stack
+
+abbrev pub cut_back : ℕ → State → State
+cut_back h s = record s { stack = cut_to h s.stack }
+
+abbrev pub pushed : Alternative → State → State
+pushed a s = record s { stack = record { what = a; goals = s.goals; bindings = s.bindings } ∷ s.stack }
+
 -- ---- terms that are made one
 
-abbrev pub now : State → Tree → Tree
-now s t = substituted s.bindings t
-
--- the most general unifier of what two terms stand for
-abbrev pub solution : State → Tree → Tree → Option (ℕ → Tree)
-solution s a b = unifier (now s a) (now s b)
+abbrev pub next_under : (ℕ → Tree) → Next → Next
+next_under m (Do goal cut) = Do (substituted m goal) cut
+next_under m (ConditionEnd h) = ConditionEnd h
+next_under m (NotEnd h) = NotEnd h
 
 abbrev pub bound_further : (ℕ → Tree) → State → State
-bound_further m s = record s { bindings = λ v. substituted m (s.bindings v) }
+bound_further m s = record s { goals = map (next_under m) s.goals; bindings = λ v. substituted m (s.bindings v) }
 
 -- on with these goals where there is a unifier, and else a failure that binds nothing
-abbrev pub solving : List Tree → State → Option (ℕ → Tree) → Outcome
-solving goals s None = fails s
-solving goals s (Some m) = Goes (bound_further m (record s { mode = Going; goals = goals ++ s.goals }))
+abbrev pub solving : List Next → State → Option (ℕ → Tree) → Outcome
+solving new s None = fails s
+solving new s (Some m) = Goes (bound_further m (record s { goals = new ++ s.goals }))
 
-abbrev pub equating : Tree → Tree → List Tree → State → Outcome
-equating a b goals s = solving goals s (solution s a b)
+abbrev pub equating : Tree → Tree → List Next → State → Outcome
+equating a b new s = solving new s (unifier a b)
 
 -- ---- calls
 
@@ -148,19 +191,23 @@ equating a b goals s = solving goals s (solution s a b)
 abbrev pub numbering : Clause → State → State
 numbering c s = record s { fresh = s.fresh + c.vars }
 
+-- the goals of a clause's body, its variables numbered from a number on; their cut goes back to a height
+abbrev pub body_from : ℕ → ℕ → Clause → List Next
+body_from from cut c = map (λ goal. Do (renamed from goal) cut) (body_goals c.body)
+
 -- a clause is entered: its head and the goal are made one, and its body's goals come first
-abbrev pub entering : Tree → Clause → ℕ → State → Outcome
-entering goal c from s = equating (renamed from c.head) goal (map (renamed from) (body_goals c.body)) s
+abbrev pub entering : Tree → Clause → ℕ → ℕ → State → Outcome
+entering goal c from cut s = equating (renamed from c.head) goal (body_from from cut c) s
 
 -- an alternative is left exactly where a clause is left
 abbrev pub leaving : Tree → List Clause → State → State
 leaving goal [] s = s
-leaving goal (c ∷ cs) s = record s { stack = record { what = Clauses goal (c ∷ cs); goals = s.goals; bindings = s.bindings } ∷ s.stack }
+leaving goal (c ∷ cs) s = pushed (Clauses goal (c ∷ cs)) s
 
--- the first of these clauses is tried
+-- the first of these clauses is tried; its cut takes the others away too
 abbrev pub trying : Tree → List Clause → State → Outcome
 trying goal [] s = fails s
-trying goal (c ∷ cs) s = entering goal c s.fresh (numbering c (leaving goal cs (record s { tried = s.tried + 1 })))
+trying goal (c ∷ cs) s = entering goal c s.fresh (height s) (numbering c (leaving goal cs (record s { tried = s.tried + 1 })))
 
 abbrev pub candidate_clauses : Journal → ℕ → GoalKeys → List Clause
 candidate_clauses J p goal = filter_map (clause_named J) (candidates J p goal)
@@ -174,55 +221,123 @@ looked before s p goal = record s { looks = s.looks ++ record { before = before;
 
 -- a call in the journal that is seen, where the front before was so
 abbrev pub called : Tree → Indicator → ℕ → Journal → State → Option ℕ → Outcome
-called goal i before seen s None = Goes (record s { mode = Raising (fault_tree (Existence i) i) })
-called goal i before seen s (Some p) = trying goal (candidate_clauses seen p (keys (now s goal))) (looked before s p (now s goal))
+called goal i before seen s None = raises (Existence i) i s
+called goal i before seen s (Some p) = trying goal (candidate_clauses seen p (keys goal)) (looked before s p goal)
 
 abbrev pub calling : Setting → State → Tree → Indicator → Outcome
 calling x s goal i = taking x s (λ seen t. called goal i s.front seen t (number_of seen i))
 
+-- ---- goals that are made bodies
+
+abbrev pub not_callable : Tree → Fault
+not_callable goal = OfType (codes "callable") (numbered goal)
+
+-- the body comes first, with a cut that goes no further back than here
+abbrev pub running : Tree → Indicator → State → Option Tree → Outcome
+running goal at s None = raises (not_callable goal) at s
+running goal at s (Some body) = onwards (Do body (height s) ∷ []) s
+
+-- `call` with so many arguments added
+abbrev pub call_with : Trees → Indicator
+call_with added = record { name = codes "call"; arity = suc (count added) }
+
+abbrev pub calling_added : Tree → Trees → State → Outcome
+calling_added (variable n) added s = raises Instantiation (call_with added) s
+calling_added (integer z) added s = raises (not_callable (integer z)) (call_with added) s
+calling_added (atom a) added s = running (with_added (atom a) added) (call_with added) s (body_of (with_added (atom a) added))
+calling_added (compound f ts) added s =
+    if nat_lt 255 (count ts + count added) then raises (Representation (codes "max_arity")) (call_with added) s
+    else running (with_added (compound f ts) added) (call_with added) s (body_of (with_added (compound f ts) added))
+
+-- the goal of a `\+` as a body, above a mark: behind the mark it goes on where the body has no answer
+abbrev pub denying : Tree → State → Option Tree → Outcome
+denying goal s None = raises (not_callable goal) (record { name = codes "\\+"; arity = 1 }) s
+denying goal s (Some body) = onwards (Do body (suc (height s)) ∷ NotEnd (height s) ∷ []) (pushed NotMark s)
+
 -- ---- goals
 
--- a goal is done within its step
-abbrev pub performing : Setting → Tree → Control → State → Outcome
-performing x goal True s = Goes s
-performing x goal (Both a b) s = Goes (record s { goals = a ∷ b ∷ s.goals })
-performing x goal (Equal a b) s = equating a b [] s
-performing x goal (User i) s = calling x s goal i
+abbrev pub repeating : State → Outcome
+repeating s = Goes (pushed Again s)
+
+-- a goal is done within its step; its cut goes back to a height
+abbrev pub performing : Setting → Tree → ℕ → Control → State → Outcome
+performing x goal cut True s = Goes s
+performing x goal cut Fail s = fails s
+performing x goal cut Cut s = Goes (cut_back cut s)
+performing x goal cut Repeat s = repeating s
+performing x goal cut (Both a b) s = onwards (Do a cut ∷ Do b cut ∷ []) s
+performing x goal cut (Either a b) s = onwards (Do a cut ∷ []) (pushed (Right b cut) s)
+-- the condition's own cut leaves the else
+performing x goal cut (IfElse c t e) s = onwards (Do c (suc (height s)) ∷ ConditionEnd (height s) ∷ Do t cut ∷ []) (pushed (Right e cut) s)
+performing x goal cut (If c t) s = onwards (Do c (height s) ∷ ConditionEnd (height s) ∷ Do t cut ∷ []) s
+performing x goal cut (Not g) s = denying g s (body_of g)
+performing x goal cut (Call g added) s = calling_added g added s
+performing x goal cut (Once g) s = onwards (Do (two (codes "->") (call_term g) (atom (codes "true"))) cut ∷ []) s
+performing x goal cut (Equal a b) s = equating a b [] s
+performing x goal cut (User i) s = calling x s goal i
 
 -- a conjunction takes no step, and every other goal takes one
-abbrev pub doing : Setting → Tree → State → Control → Outcome
-doing x goal s True = stepping x s (performing x goal True)
-doing x goal s (Both a b) = performing x goal (Both a b) s
-doing x goal s (Equal a b) = stepping x s (performing x goal (Equal a b))
-doing x goal s (User i) = stepping x s (performing x goal (User i))
+abbrev pub doing : Setting → Tree → ℕ → State → Control → Outcome
+doing x goal cut s True = stepping x s (performing x goal cut True)
+doing x goal cut s Fail = stepping x s (performing x goal cut Fail)
+doing x goal cut s Cut = stepping x s (performing x goal cut Cut)
+doing x goal cut s Repeat = stepping x s (performing x goal cut Repeat)
+doing x goal cut s (Both a b) = performing x goal cut (Both a b) s
+doing x goal cut s (Either a b) = stepping x s (performing x goal cut (Either a b))
+doing x goal cut s (IfElse c t e) = stepping x s (performing x goal cut (IfElse c t e))
+doing x goal cut s (If c t) = stepping x s (performing x goal cut (If c t))
+doing x goal cut s (Not g) = stepping x s (performing x goal cut (Not g))
+doing x goal cut s (Call g added) = stepping x s (performing x goal cut (Call g added))
+doing x goal cut s (Once g) = stepping x s (performing x goal cut (Once g))
+doing x goal cut s (Equal a b) = stepping x s (performing x goal cut (Equal a b))
+doing x goal cut s (User i) = stepping x s (performing x goal cut (User i))
 
-abbrev pub goal_move : Setting → Tree → State → Option Control → Outcome
-goal_move x goal s None = Unfit
-goal_move x goal s (Some c) = doing x goal s c
+abbrev pub goal_move : Setting → Tree → ℕ → State → Option Control → Outcome
+goal_move x goal cut s None = Unfit
+goal_move x goal cut s (Some c) = doing x goal cut s c
 
 abbrev pub is_alternative : Alternative → Bool
 is_alternative (Clauses goal rest) = true
+is_alternative (Right goal cut) = true
+is_alternative Again = true
+is_alternative NotMark = false
 
 -- the value of the shown term, with its variables numbered from 0 by first occurrence; open where an alternative is left
 abbrev pub answer : Setting → State → Event
-answer x s = Answer (numbered (now s x.shown)) (list_any (λ c. is_alternative c.what) s.stack)
+answer x s = Answer (numbered (substituted s.bindings x.shown)) (list_any (λ c. is_alternative c.what) s.stack)
 
--- no goal is left: an answer, and on as after a failure; else the first goal
-abbrev pub going : Setting → State → List Tree → Outcome
+-- no goal is left: an answer, and on as after a failure; else the first thing to be done
+abbrev pub going : Setting → State → List Next → Outcome
 going x s [] = fails (record s { events = s.events ++ answer x s ∷ [] })
-going x s (goal ∷ rest) = goal_move x goal (record s { goals = rest }) (control_of goal)
+going x s (Do goal cut ∷ rest) = goal_move x goal cut (record s { goals = rest }) (control_of goal)
+-- the condition has its first answer: what is left of it is taken away, and its else
+going x s (ConditionEnd h ∷ rest) = Goes (cut_back h (record s { goals = rest }))
+-- the goal of a `\+` has an answer: its mark is taken away too
+going x s (NotEnd h ∷ rest) = fails (cut_back h (record s { goals = rest }))
 
+-- an alternative is taken, by a step; a mark is passed without one
 abbrev pub taken : Setting → State → Alternative → Outcome
 taken x s (Clauses goal rest) = stepping x s (trying goal rest)
+taken x s (Right goal cut) = stepping x s (onwards (Do goal cut ∷ []))
+taken x s Again = stepping x s repeating
+taken x s NotMark = Goes s
 
--- the newest alternative is taken, in the state of its moment
+-- back in the state of a choice's moment, but for what was counted
+abbrev pub back_to : State → Choice → List Choice → State
+back_to s c below = record s { mode = Going; goals = c.goals; bindings = c.bindings; stack = below }
+
+-- the newest choice is taken off
 abbrev pub failing : Setting → State → List Choice → Outcome
 failing x s [] = over x s Exhausted
-failing x s (c ∷ below) = taken x (record s { mode = Going; goals = c.goals; bindings = c.bindings; stack = below }) c.what
+failing x s (c ∷ below) = taken x (back_to s c below) c.what
 
--- One move. A ball ends the run, since nothing catches it.
+-- a ball ends the run, since nothing catches it
+abbrev pub raising : Setting → State → Tree → Outcome
+raising x s ball = over x s (Ball ball)
+
+-- one move
 abbrev pub move : Setting → State → Outcome
-move x s = elim (s.mode) [ Going ↦ going x s s.goals | Failing ↦ failing x s s.stack | Raising ball ↦ over x s (Ball ball) ]
+move x s = elim (s.mode) [ Going ↦ going x s s.goals | Failing ↦ failing x s s.stack | Raising ball ↦ raising x s ball ]
 
 -- ---- runs
 
@@ -235,7 +350,7 @@ pub data Runs (x : Setting) : State → Report → Type 0 where
 abbrev pub beginning : Setting → Tree → List ℕ → State
 beginning x goal fronts = record {
   mode = Going;
-  goals = goal ∷ [];
+  goals = Do (first_body goal) 0 ∷ [];
   stack = [];
   bindings = variable;
   fresh = beyond goal;
@@ -263,3 +378,71 @@ TranscriptIsOne = (x : Setting) (goal : Tree) (fronts : List ℕ) (r q : Report)
 -- no run takes more steps than its budget
 abbrev pub StepsAreWithin : Type 0
 StepsAreWithin = (x : Setting) (goal : Tree) (fronts : List ℕ) (r : Report) → Transcript x goal fronts r → r.steps ≤ x.budget
+
+-- a run from a state comes to a move that doesn't fit the fronts or the journal
+pub data Misfits (x : Setting) : State → Type 0 where
+  unfit : {s : State} → move x s ≡ Unfit → Misfits x s
+  later : {s t : State} → move x s ≡ Goes t → Misfits x t → Misfits x s
+
+-- a goal has a transcript over a journal and fronts, unless its run comes to a move that doesn't fit them
+abbrev pub HasTranscript : Type 0
+HasTranscript = (x : Setting) (goal : Tree) (fronts : List ℕ) → ((r : Report) × Transcript x goal fronts r) ⊎ Misfits x (beginning x goal fronts)
+
+-- ---- goals are bodies
+
+abbrev pub CanBeDone : Next → Type 0
+CanBeDone (Do goal cut) = IsTrue (is_body goal)
+CanBeDone (ConditionEnd h) = Unit {0}
+CanBeDone (NotEnd h) = Unit {0}
+
+abbrev pub HasBody : Clause → Type 0
+HasBody c = IsTrue (is_body c.body)
+
+abbrev pub CanBeTaken : Alternative → Type 0
+CanBeTaken (Clauses goal rest) = All HasBody rest
+CanBeTaken (Right goal cut) = IsTrue (is_body goal)
+CanBeTaken Again = Unit {0}
+CanBeTaken NotMark = Unit {0}
+
+pub record CanGoBack (c : Choice) : Type 0 where
+  pub what : CanBeTaken c.what
+  pub goals : All CanBeDone c.goals
+
+-- each goal of a state is a body, so no variable and no integer ever stands as a goal
+pub record IsWellMade (s : State) : Type 0 where
+  pub goals : All CanBeDone s.goals
+  pub stack : All CanGoBack s.stack
+
+-- each clause that a journal adds has a body
+abbrev pub HasBodies : Journal → Type 0
+HasBodies J = All (λ e. IfSome (added e.what) HasBody) J
+
+pub record GoalsAreBodies : Type 0 where
+  pub begins : (x : Setting) (goal : Tree) (fronts : List ℕ) → IsWellMade (beginning x goal fronts)
+  pub goes : (x : Setting) (s t : State) → HasBodies x.journal → IsWellMade s → move x s ≡ Goes t → IsWellMade t
+  pub controlled : (goal : Tree) → IsTrue (is_body goal) → IsSome (control_of goal)
+
+-- so it is in a legal journal
+abbrev pub LegalHasBodies : Type 0
+LegalHasBodies = (words updates : ℕ) (J : Journal) → Legal words updates J → HasBodies J
+
+-- Over clauses with bodies each goal has a run, where the engine has no entries of its own: that at fronts which are all the
+-- journal's length.
+abbrev pub EachGoalRuns : Type 0
+EachGoalRuns = (x : Setting) (goal : Tree) → HasBodies x.journal → made_all x ≡ true → x.start ≤ length x.journal
+    → (n : ℕ) × ((r : Report) × Transcript x goal (replicate n (length x.journal)) r)
+
+-- ---- as an engine keeps it
+
+-- the newest first
+abbrev pub newest : {A B : Type 0} → (A → B) → List A → List B → List B
+newest f [] onto = onto
+newest f (x ∷ xs) onto = newest f xs (f x ∷ onto)
+
+pub record EngineLaws : Type 0 where
+  -- a cut of a stack that is kept with the newest last
+  pub cut : (f : Choice → Choice) (xs : List Choice) (h : ℕ) → cut_to h (newest f xs []) ≡ newest f (take h xs) []
+  -- goals that are kept as they were built, under bindings and then under those of a unifier
+  pub under : (m b : ℕ → Tree) (ns : List Next) → map (next_under m) (map (next_under b) ns) ≡ map (next_under (λ v. substituted m (b v))) ns
+  -- what stands for itself is as it was built
+  pub unbound : (b : ℕ → Tree) (from : ℕ) (t : Tree) → ((v : ℕ) → from ≤ v → b v ≡ variable v) → substituted b (renamed from t) ≡ renamed from t

@@ -1,12 +1,13 @@
 -- Worked rows: texts of clauses as journals, goals over them, and what their runs give.
-use Rattle.std.specs.Prelude.{◌≡◌, ℕ, List, [], ◌∷◌, length, codes, Bool, true, false}
-use Rattle.prolog_terms.specs.Tree.{Tree, variable, atom, compound, none, more}
+use Rattle.std.specs.Prelude.{ℕ, zero, suc, pos, List, [], ◌∷◌, length, codes, true, false}
+use Rattle.prolog_terms.specs.Tree.{Tree, Trees, variable, integer, atom, compound, none, more}
 use Rattle.prolog_terms.specs.Faults.{fault_tree}
 use Rattle.prolog_terms.specs.declared.entry.Entry.{Entry}
+use Rattle.prolog_terms.specs.declared.entry.Indicator.{Indicator}
 use Rattle.prolog_terms.specs.declared.entry.Kind.TheVariants.{Static}
 use Rattle.prolog_terms.specs.declared.entry.End.TheVariants.{Back}
 use Rattle.prolog_terms.specs.declared.entry.What.TheVariants.{Declare, Add}
-use Rattle.prolog_terms.specs.declared.fault.Fault.TheVariants.{Existence}
+use Rattle.prolog_terms.specs.declared.fault.Fault.TheVariants.{Instantiation, OfType, Existence, Representation}
 use Rattle.journal_base.specs.Journal.{Journal}
 use Rattle.wam_machine.specs.Machine.{Setting, Look, Transcript}
 use Rattle.wam_machine.specs.declared.run.Event.{Event}
@@ -93,6 +94,104 @@ a_loop = declared (codes "loop") 0 ∷ clause 0 (atom (codes "loop")) (atom (cod
 abbrev pub any_between : Journal
 any_between = declared (codes "q") 1 ∷ fact 0 (one (codes "q") a) ∷ clause 0 (one (codes "q") x) truth 1 ∷ fact 0 (one (codes "q") b) ∷ []
 
+-- ---- goals
+
+abbrev pub failure : Tree
+failure = atom (codes "fail")
+
+abbrev pub cut : Tree
+cut = atom (codes "!")
+
+abbrev pub repeats : Tree
+repeats = atom (codes "repeat")
+
+abbrev pub both : Tree → Tree → Tree
+both t u = two (codes ",") t u
+
+abbrev pub or : Tree → Tree → Tree
+or t u = two (codes ";") t u
+
+abbrev pub then : Tree → Tree → Tree
+then t u = two (codes "->") t u
+
+abbrev pub equal : Tree → Tree → Tree
+equal t u = two (codes "=") t u
+
+abbrev pub denied : Tree → Tree
+denied t = one (codes "\\+") t
+
+abbrev pub once : Tree → Tree
+once t = one (codes "once") t
+
+abbrev pub cell : Tree → Tree → Tree
+cell t u = two (codes ".") t u
+
+abbrev pub mem : Tree → Tree → Tree
+mem t u = two (codes "mem") t u
+
+abbrev pub trees : List Tree → Trees
+trees [] = none
+trees (t ∷ ts) = more t (trees ts)
+
+-- call(T, Ts..)
+abbrev pub call : List Tree → Tree
+call ts = compound (codes "call") (trees ts)
+
+abbrev pub number : ℕ → Tree
+number n = integer (pos n)
+
+abbrev pub copies : ℕ → Tree → List Tree
+copies zero t = []
+copies (suc n) t = t ∷ copies n t
+
+-- X = 1 ; X = 2
+abbrev pub one_or_two : Tree
+one_or_two = or (equal x (number 1)) (equal x (number 2))
+
+abbrev pub called : ℕ → Indicator
+called n = record { name = codes "call"; arity = n }
+
+abbrev pub uncallable : Tree → Indicator → RunEnd
+uncallable t at = Ball (fault_tree (OfType (codes "callable") t) at)
+
+-- A goal over no clauses, which shows X, gives these answers, so many steps and this end.
+abbrev pub Alone : Tree → List Event → ℕ → RunEnd → Type 0
+Alone goal events steps end = Gives [] 100 goal (x ∷ []) [] events steps end
+
+abbrev pub is_one : Event
+is_one = closed (number 1 ∷ [])
+
+abbrev pub is_two : Event
+is_two = closed (number 2 ∷ [])
+
+abbrev pub one_and_more : Event
+one_and_more = opened (number 1 ∷ [])
+
+abbrev pub is_free : Event
+is_free = closed (variable 0 ∷ [])
+
+-- ---- texts of clauses
+
+-- f(a,b).
+abbrev pub one_pair : Journal
+one_pair = declared (codes "f") 2 ∷ fact 0 (two (codes "f") a b) ∷ []
+
+-- c(X) :- p(X), !. c(d). p(a). p(b). p(c).
+abbrev pub a_cut : Journal
+a_cut =
+    declared (codes "c") 1 ∷ clause 0 (one (codes "c") x) (both (p x) cut) 1 ∷ fact 0 (one (codes "c") (atom (codes "d")))
+    ∷ declared (codes "p") 1 ∷ fact 1 (p a) ∷ fact 1 (p b) ∷ fact 1 (p c) ∷ []
+
+-- mem(X,[X|_]). mem(X,[_|T]) :- mem(X,T).
+abbrev pub members : Journal
+members =
+    declared (codes "mem") 2 ∷ clause 0 (mem x (cell x (variable 1))) truth 2
+    ∷ clause 0 (mem x (cell (variable 1) (variable 2))) (mem x (variable 2)) 3 ∷ []
+
+abbrev pub copied_number : ℕ → ℕ → List ℕ
+copied_number zero n = []
+copied_number (suc k) n = n ∷ copied_number k n
+
 pub record HasRows : Type 0 where
   -- `true` as a goal takes a step
   pub true_goal : Gives [] 100 truth [] [] (closed [] ∷ []) 1 Exhausted
@@ -104,11 +203,126 @@ pub record HasRows : Type 0 where
   pub middle : Gives any_between 100 (one (codes "q") b) [] (4 ∷ []) (opened [] ∷ closed [] ∷ []) 2 Exhausted
   -- a conjunction takes no step, taking an alternative takes one, and so does `=`
   pub through_a_rule : Gives a_rule 100 (one (codes "g") x) (x ∷ []) (5 ∷ 5 ∷ []) (closed (b ∷ []) ∷ []) 5 Exhausted
-  pub budget_spent : Gives a_loop 10 (atom (codes "loop")) [] (2 ∷ 2 ∷ 2 ∷ 2 ∷ 2 ∷ 2 ∷ 2 ∷ 2 ∷ 2 ∷ 2 ∷ []) [] 10 (Spent 10)
+  pub budget_spent : Gives a_loop 10 (atom (codes "loop")) [] (copied_number 10 2) [] 10 (Spent 10)
   -- a variable is not bound to a term in which it stands
-  pub occurring : Gives [] 100 (two (codes "=") x (one (codes "f") x)) (x ∷ []) [] [] 1 Exhausted
+  pub occurring : Alone (equal x (one (codes "f") x)) [] 1 Exhausted
   -- a variable without a value is numbered from 0
-  pub two_free : Gives [] 100 (two (codes "=") (variable 7) (variable 3)) (variable 7 ∷ variable 3 ∷ []) [] (closed (variable 0 ∷ variable 0 ∷ []) ∷ []) 1 Exhausted
+  pub two_free : Gives [] 100 (equal (variable 7) (variable 3)) (variable 7 ∷ variable 3 ∷ []) [] (closed (variable 0 ∷ variable 0 ∷ []) ∷ []) 1 Exhausted
   -- a call of a procedure that isn't declared
   pub undeclared : Gives [] 100 (one (codes "foo") a) [] (0 ∷ []) [] 1
       (Ball (fault_tree (Existence (record { name = codes "foo"; arity = 1 })) (record { name = codes "foo"; arity = 1 })))
+  -- ---- alternatives and cut
+  -- X = 1 ; X = 2
+  pub alternatives : Alone one_or_two (one_and_more ∷ is_two ∷ []) 4 Exhausted
+  -- fail
+  pub failing : Alone failure [] 1 Exhausted
+  -- (X = 1 ; X = 2), !
+  pub cut_after : Alone (both one_or_two cut) (is_one ∷ []) 3 Exhausted
+  -- the same within its steps, and with one less
+  pub cut_after_exactly : Gives [] 3 (both one_or_two cut) (x ∷ []) [] (is_one ∷ []) 3 Exhausted
+  pub cut_after_spent : Gives [] 2 (both one_or_two cut) (x ∷ []) [] [] 2 (Spent 2)
+  -- in the left side of `;`: (X = 1 ; X = 2), (! ; true)
+  pub cut_left : Alone (both one_or_two (or cut truth)) (is_one ∷ []) 4 Exhausted
+  -- in its right side: (X = 1 ; X = 2), (fail ; !)
+  pub cut_right : Alone (both one_or_two (or failure cut)) (is_one ∷ []) 6 Exhausted
+  -- in a clause's body it takes the other clauses away, and what the body left: c(X)
+  pub cut_in_clause : Gives a_cut 100 (one (codes "c") x) (x ∷ []) (7 ∷ 7 ∷ []) (closed (a ∷ []) ∷ []) 3 Exhausted
+  -- and no alternative from before the clause: (X = 1 ; X = 2), c(a)
+  pub cut_outside : Gives a_cut 100 (both one_or_two (one (codes "c") a)) (x ∷ []) (7 ∷ 7 ∷ 7 ∷ 7 ∷ []) (one_and_more ∷ is_two ∷ []) 10 Exhausted
+  -- ---- calls
+  -- a cut in `call` is local: (X = 1 ; X = 2), call(!)
+  pub cut_in_call : Alone (both one_or_two (call (cut ∷ []))) (one_and_more ∷ is_two ∷ []) 8 Exhausted
+  -- call((!, fail ; true))
+  pub cut_in_called : Alone (call (or (both cut failure) truth ∷ [])) [] 4 Exhausted
+  -- arguments are added behind those of a goal, in order: call(f,X,Y), call(f(X),Y)
+  pub added_to_atom : Gives one_pair 100 (call (atom (codes "f") ∷ x ∷ variable 1 ∷ [])) (x ∷ variable 1 ∷ []) (2 ∷ []) (closed (a ∷ b ∷ []) ∷ []) 2 Exhausted
+  pub added_to_compound : Gives one_pair 100 (call (one (codes "f") x ∷ variable 1 ∷ [])) (x ∷ variable 1 ∷ []) (2 ∷ []) (closed (a ∷ b ∷ []) ∷ []) 2 Exhausted
+  -- call(',',true,X = 1)
+  pub added_to_control : Alone (call (atom (codes ",") ∷ truth ∷ equal x (number 1) ∷ [])) (is_one ∷ []) 3 Exhausted
+  -- call((a,b),c) calls a procedure ','/3
+  pub added_to_conjunction : Gives [] 100 (call (both a b ∷ c ∷ [])) [] (0 ∷ []) [] 2
+      (Ball (fault_tree (Existence (record { name = codes ","; arity = 3 })) (record { name = codes ","; arity = 3 })))
+  -- seven arguments may be added, and `call` with nine is no control construct
+  pub call_of_eight : Gives [] 100 (call (a ∷ copies 7 b)) [] (0 ∷ []) [] 2
+      (Ball (fault_tree (Existence (record { name = codes "a"; arity = 7 })) (record { name = codes "a"; arity = 7 })))
+  pub call_of_nine : Gives [] 100 (call (a ∷ copies 8 b)) [] (0 ∷ []) [] 1 (Ball (fault_tree (Existence (called 9)) (called 9)))
+  -- what is unbound when it becomes a body is called when its turn comes: call((X = true, X))
+  pub called_later : Alone (call (both (equal x truth) x ∷ [])) (closed (truth ∷ []) ∷ []) 4 Exhausted
+  -- what is bound by then is a goal of the body: X = !, call((X ; true))
+  pub called_now : Gives [] 100 (both (equal x cut) (call (or x truth ∷ []))) [] [] (closed [] ∷ []) 4 Exhausted
+  -- ---- bodies that can't be converted
+  -- G
+  pub unbound : Alone x [] 1 (Ball (fault_tree Instantiation (called 1)))
+  -- 1
+  pub integer_goal : Alone (number 1) [] 1 (uncallable (number 1) (called 1))
+  -- call((foo,1))
+  pub integer_in_body : Alone (call (both (atom (codes "foo")) (number 1) ∷ [])) [] 1 (uncallable (both (atom (codes "foo")) (number 1)) (called 1))
+  -- call((Y,1)): the culprit's variables are numbered from 0
+  pub free_culprit : Alone (call (both (variable 5) (number 1) ∷ [])) [] 1 (uncallable (both x (number 1)) (called 1))
+  -- call(1,a)
+  pub added_to_integer : Alone (call (number 1 ∷ a ∷ [])) [] 1 (uncallable (number 1) (called 2))
+  -- call(X,a)
+  pub added_to_unbound : Alone (call (x ∷ a ∷ [])) [] 1 (Ball (fault_tree Instantiation (called 2)))
+  -- call((fail ; 1),a) calls a procedure ;/3
+  pub added_to_either : Gives [] 100 (call (or failure (number 1) ∷ a ∷ [])) [] (0 ∷ []) [] 2
+      (Ball (fault_tree (Existence (record { name = codes ";"; arity = 3 })) (record { name = codes ";"; arity = 3 })))
+  -- call(;(fail),1): the culprit is the goal with what is added to it
+  pub added_makes_no_body : Alone (call (one (codes ";") failure ∷ number 1 ∷ [])) [] 1 (uncallable (or failure (number 1)) (called 2))
+  -- 255 arguments and one more
+  pub too_many : Alone (call (compound (codes "f") (trees (copies 255 a)) ∷ a ∷ [])) [] 1 (Ball (fault_tree (Representation (codes "max_arity")) (called 2)))
+  -- \+ 1, and \+ X: a variable's body is call(X)
+  pub denied_integer : Alone (denied (number 1)) [] 1 (uncallable (number 1) (record { name = codes "\\+"; arity = 1 }))
+  pub denied_unbound : Alone (denied x) [] 2 (Ball (fault_tree Instantiation (called 1)))
+  -- ---- negation
+  -- \+ X = 1, \+ fail, \+ \+ X = a
+  pub denied_equal : Alone (denied (equal x (number 1))) [] 2 Exhausted
+  pub denied_fail : Alone (denied failure) (is_free ∷ []) 2 Exhausted
+  pub denied_twice : Alone (denied (denied (equal x a))) (is_free ∷ []) 3 Exhausted
+  -- \+ \+ (X = 1 ; X = 2): nothing of it is left
+  pub denied_alternatives : Alone (denied (denied one_or_two)) (is_free ∷ []) 4 Exhausted
+  -- a cut in it is local: (X = 1 ; X = 2), \+ (!, fail)
+  pub cut_in_denied : Alone (both one_or_two (denied (both cut failure))) (one_and_more ∷ is_two ∷ []) 10 Exhausted
+  -- behind a `\+` its mark is gone: (\+ fail), (X = 1 ; X = 2)
+  pub denied_closed : Alone (both (denied failure) one_or_two) (one_and_more ∷ is_two ∷ []) 6 Exhausted
+  -- ---- conditions
+  -- fail -> true ; X = 2
+  pub else_taken : Alone (or (then failure truth) (equal x (number 2))) (is_two ∷ []) 4 Exhausted
+  -- true -> X = 1 ; X = 2
+  pub else_gone : Alone (or (then truth (equal x (number 1))) (equal x (number 2))) (is_one ∷ []) 3 Exhausted
+  -- true -> fail ; X = 2: the else is gone too
+  pub then_fails : Alone (or (then truth failure) (equal x (number 2))) [] 3 Exhausted
+  -- without an else: true -> X = 1, fail -> true
+  pub then_alone : Alone (then truth (equal x (number 1))) (is_one ∷ []) 3 Exhausted
+  pub condition_fails : Alone (then failure truth) [] 2 Exhausted
+  -- the condition's first answer alone: (X = 1 ; X = 2) -> true, and with an else
+  pub first_answer : Alone (then one_or_two truth) (is_one ∷ []) 4 Exhausted
+  pub first_answer_of_two : Alone (or (then one_or_two truth) truth) (is_one ∷ []) 4 Exhausted
+  -- what comes after the condition keeps its alternatives: true -> (X = 1 ; X = 2)
+  pub then_left_open : Alone (then truth one_or_two) (one_and_more ∷ is_two ∷ []) 6 Exhausted
+  -- the left side of `;` is looked at as it is bound: X = (fail -> true), call((X ; X = Z))
+  pub bound_condition : Gives [] 100 (both (equal x (then failure truth)) (call (or x truth ∷ []))) [] [] (closed [] ∷ []) 6 Exhausted
+  -- a cut in the condition is local: (X = 1 ; X = 2), (! -> true ; fail)
+  pub cut_in_condition : Alone (both one_or_two (or (then cut truth) failure)) (one_and_more ∷ is_two ∷ []) 10 Exhausted
+  -- and leaves the else: (!, fail -> true ; X = 2)
+  pub cut_in_failing_condition : Alone (or (then (both cut failure) truth) (equal x (number 2))) (is_two ∷ []) 5 Exhausted
+  -- in what comes after it, it isn't: (X = 1 ; X = 2), (true -> ! ; fail)
+  pub cut_in_then : Alone (both one_or_two (or (then truth cut) failure)) (is_one ∷ []) 5 Exhausted
+  -- nor in the else: (X = 1 ; X = 2), (fail -> true ; !)
+  pub cut_in_else : Alone (both one_or_two (or (then failure truth) cut)) (is_one ∷ []) 6 Exhausted
+  -- (true -> fail ; true) -> X = 1 ; X = 2
+  pub nested : Alone (or (then (or (then truth failure) truth) (equal x (number 1))) (equal x (number 2))) (is_two ∷ []) 6 Exhausted
+  -- ---- once and repeat
+  -- once((X = 1 ; X = 2))
+  pub once_of_two : Alone (once one_or_two) (is_one ∷ []) 6 Exhausted
+  -- once(repeat)
+  pub once_repeat : Alone (once repeats) (is_free ∷ []) 5 Exhausted
+  -- once(mem(X,[a,b]))
+  pub once_member : Gives members 100 (once (mem x (list_of (a ∷ b ∷ [])))) (x ∷ []) (3 ∷ []) (closed (a ∷ []) ∷ []) 5 Exhausted
+  -- once(1): the error is that of `call`
+  pub once_integer : Alone (once (number 1)) [] 3 (uncallable (number 1) (called 1))
+  -- repeat, !
+  pub cut_after_repeat : Alone (both repeats cut) (is_free ∷ []) 2 Exhausted
+  -- repeat, fail
+  pub repeat_spent : Gives [] 10 (both repeats failure) [] [] [] 10 (Spent 10)
+  -- repeat: an answer after each step, and after the last
+  pub repeat_answers : Gives [] 3 repeats [] [] (opened [] ∷ opened [] ∷ opened [] ∷ []) 3 (Spent 3)

@@ -1,80 +1,111 @@
--- What the engine's terms say: the goals that are still to be done, what the variables stand for, and the calls with clauses left.
-use Rattle.std.specs.Prelude.{◌≡◌, ℕ, zero, suc, ◌+◌, ◌<◌, ◌≤◌, List, [], ◌∷◌, ◌++◌, length, map, reverse, Bool, true, false, IsTrue, Option, Some, None, slice_index_or, pos}
+-- What the engine's terms say: what is still to be done, what the variables stand for, and what may be gone back to. A goal is said
+-- as what it stands for.
+use Rattle.std.specs.Prelude.{◌≡◌, ℕ, zero, suc, ◌+◌, ◌<◌, ◌≤◌, List, [], ◌∷◌, ◌++◌, length, map, reverse, Bool, true, false, ◌||◌, IsTrue, Option, Some, None, slice_index_or, filter_map, vec_len, vec_capacity}
 use Rattle.prolog_terms.specs.Tree.{Tree}
 use Rattle.prolog_terms.specs.Substitutions.{substituted, renamed}
 use Rattle.prolog_terms.specs.Clauses.{is_body}
 use Rattle.prolog_terms.specs.declared.entry.Clause.{Clause}
 use Rattle.term_store.specs.Shape.{Shape}
-use Rattle.term_store.specs.Terms.{raw, meaning, HasTerm, AreNamed}
-use Rattle.term_store.specs.Later.{back, CanGoBack, AreDistinct}
+use Rattle.term_store.specs.Terms.{raw, meaning, term_of, HasTerm, AreNamed}
+use Rattle.term_store.specs.Later.{back, CanGoBack, AreDistinct, AreLonger}
 use Rattle.term_store.specs.declared.cell.Cell.{Cell}
-use Rattle.term_store.specs.declared.cell.Cell.TheVariants.{Integer}
 use Rattle.term_unifier.specs.Unifier.{unifier}
-use Rattle.wam_machine.specs.Control.{body_goals}
+use Rattle.wam_machine.specs.Machine.{Next, Do, ConditionEnd, NotEnd, next_under, body_from}
+use Rattle.wam_machine.specs.declared.terms.Alternative.{Alternative}
+use Rattle.wam_machine.specs.declared.terms.Alternative.TheVariants as is
 use Rattle.wam_machine.specs.declared.terms.Call.{Call}
 use Rattle.wam_machine.specs.declared.terms.Choice.{Choice}
 use Rattle.wam_machine.specs.declared.terms.Frame.{Frame}
+use Rattle.wam_machine.specs.declared.terms.Next.{Next as Waiting}
+use Rattle.wam_machine.specs.declared.terms.Next.TheVariants as waits
 use Rattle.wam_machine.specs.declared.terms.Terms.{Terms}
 
 -- ---- what is said
 
--- a call whose clauses are tried: its goal, the goals that come after it, what each variable stood for at its moment, its
--- procedure, and the cursor over the clauses that are left
+-- a call whose clauses are tried: its goal, its procedure, and the cursor over the clauses that are left
 pub record Left (C : Type 0) : Type 0 where
   pub goal : Tree
-  pub goals : List Tree
-  pub bindings : ℕ → Tree
   pub procedure : ℕ
   pub cursor : C
 
+-- how the machine goes on where it goes back
+pub data Turn (C : Type 0) : Type 0 where
+  -- with the clauses that are left of a call
+  OfCall : (call : Left C) → Turn C
+  -- with the right side of a `;`, or an else
+  OfRight : (goal : Tree) (cut : ℕ) → Turn C
+  -- with a further turn of `repeat`
+  OfRepeat : Turn C
+  -- behind a `\+`
+  OfNot : Turn C
+
+-- a moment that may be gone back to: how, the goals that come after that, and what each variable stood for
+pub record Saved (C : Type 0) : Type 0 where
+  pub turn : Turn C
+  pub goals : List Next
+  pub bindings : ℕ → Tree
+
 pub record Said (C : Type 0) : Type 0 where
   -- what is still to be done, first things first
-  pub goals : List Tree
+  pub goals : List Next
   -- what each variable stands for
   pub bindings : ℕ → Tree
   -- the number of the next variable
   pub fresh : ℕ
   -- the term of which an answer gives the value
   pub shown : Tree
-  -- the calls with clauses left, the newest last
-  pub stack : List (Left C)
+  -- the moments that may be gone back to, the newest last
+  pub stack : List (Saved C)
 
 -- ---- how the engine keeps it
 
+-- what is still to be done, where cells have these terms
+abbrev pub next_of : (Cell → Tree) → Waiting → Next
+next_of tree (waits.Do c h) = Do (tree c) h
+next_of tree (waits.ConditionEnd h) = ConditionEnd h
+next_of tree (waits.NotEnd h) = NotEnd h
+
 abbrev pub frame_at : List Frame → ℕ → Frame
-frame_at frames i = slice_index_or frames i (record { goal = Integer (pos 0); next = 0 })
+frame_at frames i = slice_index_or frames i (record { what = waits.NotEnd 0; next = 0 })
 
 -- the goals from a frame on, by its number from 1; 0 is none. Each frame leads on to one below it, so the number bounds the way.
-abbrev pub goals_from : ℕ → (Cell → Tree) → List Frame → ℕ → List Tree
+abbrev pub goals_from : ℕ → (Cell → Tree) → List Frame → ℕ → List Next
 goals_from zero tree frames n = []
 goals_from (suc k) tree frames zero = []
-goals_from (suc k) tree frames (suc i) = tree (frame_at frames i).goal ∷ goals_from k tree frames (frame_at frames i).next
+goals_from (suc k) tree frames (suc i) = next_of tree (frame_at frames i).what ∷ goals_from k tree frames (frame_at frames i).next
 
-unfoldable pub goals_at : (Cell → Tree) → List Frame → ℕ → List Tree
+unfoldable pub goals_at : (Cell → Tree) → List Frame → ℕ → List Next
 goals_at tree frames n = goals_from n tree frames n
 
--- a call with clauses left, as it was at its moment
-abbrev pub left_of : {C : Type 0} → List (List ℕ) → Shape → List Frame → Choice C → Left C
-left_of texts shape frames c = record {
-  goal = raw texts shape c.call.goal;
-  goals = goals_at (raw texts shape) frames c.next;
+abbrev pub left_of : {C : Type 0} → (Cell → Tree) → Call C → Left C
+left_of tree c = record { goal = tree c.goal; procedure = c.procedure; cursor = c.cursor }
+
+abbrev pub turn_of : {C : Type 0} → (Cell → Tree) → Alternative C → Turn C
+turn_of tree (is.Clauses c) = OfCall (left_of tree c)
+turn_of tree (is.Right c h) = OfRight (tree c) h
+turn_of tree is.Again = OfRepeat
+turn_of tree is.NotMark = OfNot
+
+-- what may be gone back to, as it was at its moment
+abbrev pub saved_of : {C : Type 0} → List (List ℕ) → Shape → List Frame → Choice C → Saved C
+saved_of texts shape frames c = record {
+  turn = turn_of (term_of texts (back c.mark shape)) c.what;
+  goals = goals_at (term_of texts (back c.mark shape)) frames c.next;
   bindings = meaning texts (back c.mark shape);
-  procedure = c.call.procedure;
-  cursor = c.call.cursor;
 }
 
 unfoldable pub said : {C : Type 0} → Terms C → Said C
 said t = record {
-  goals = goals_at (raw t.names t.store) t.frames.items t.next;
+  goals = goals_at (term_of t.names t.store) t.frames.items t.next;
   bindings = meaning t.names t.store;
   fresh = t.store.variables;
   shown = raw t.names t.store t.shown;
-  stack = map (left_of t.names t.store t.frames.items) t.choices.items;
+  stack = map (saved_of t.names t.store t.frames.items) t.choices.items;
 }
 
--- the term of a cell, as it was built
+-- what a cell stands for
 unfoldable pub built : {C : Type 0} → Terms C → Cell → Tree
-built t c = raw t.names t.store c
+built t c = term_of t.names t.store c
 
 -- the cell has a term
 unfoldable pub IsBuilt : {C : Type 0} → Terms C → Cell → Type 0
@@ -85,34 +116,94 @@ pub record IsGoal {C : Type 0} (t : Terms C) (c : Cell) : Type 0 where
   pub built_is : IsBuilt t c
   pub body : IsTrue (is_body (built t c))
 
+-- ---- now
+
+abbrev pub next_now : {C : Type 0} → Terms C → Waiting → Next
+next_now t n = next_of (built t) n
+
+-- its goal can be done
+abbrev pub IsNext : {C : Type 0} → Terms C → Waiting → Type 0
+IsNext t (waits.Do c h) = IsGoal t c
+IsNext t (waits.ConditionEnd h) = Unit {0}
+IsNext t (waits.NotEnd h) = Unit {0}
+
 -- a call that was just looked up, or taken up again: its moment is now
 abbrev pub call_now : {C : Type 0} → Terms C → Call C → Left C
-call_now t c = record {
-  goal = built t c.goal;
-  goals = (said t).goals;
-  bindings = (said t).bindings;
-  procedure = c.procedure;
-  cursor = c.cursor;
-}
+call_now t c = left_of (built t) c
+
+abbrev pub turn_now : {C : Type 0} → Terms C → Alternative C → Turn C
+turn_now t a = turn_of (built t) a
+
+-- this moment, where it goes on so
+abbrev pub saved_now : {C : Type 0} → Terms C → Alternative C → Saved C
+saved_now t a = record { turn = turn_now t a; goals = (said t).goals; bindings = (said t).bindings }
+
+-- its goal has a term, or can be done
+abbrev pub IsTurn : {C : Type 0} → Terms C → Alternative C → Type 0
+IsTurn t (is.Clauses c) = IsBuilt t c.goal
+IsTurn t (is.Right c h) = IsGoal t c
+IsTurn t is.Again = Unit {0}
+IsTurn t is.NotMark = Unit {0}
+
+-- one more moment may be saved without taking memory
+unfoldable pub HasPlace : {C : Type 0} → Terms C → Type 0
+HasPlace t = vec_len t.choices < vec_capacity t.choices
+
+-- ---- the stack
+
+-- an alternative, and no mark of a `\+`
+abbrev pub is_open : {C : Type 0} → Turn C → Bool
+is_open (OfCall c) = true
+is_open (OfRight g h) = true
+is_open OfRepeat = true
+is_open OfNot = false
+
+-- an alternative is left
+abbrev pub is_any_open : {C : Type 0} → List (Saved C) → Bool
+is_any_open [] = false
+is_any_open (s ∷ ss) = is_open s.turn || is_any_open ss
+
+abbrev pub call_in : {C : Type 0} → Turn C → Option (Left C)
+call_in (OfCall c) = Some c
+call_in (OfRight g h) = None
+call_in OfRepeat = None
+call_in OfNot = None
+
+-- the calls with clauses left
+abbrev pub calls_in : {C : Type 0} → List (Saved C) → List (Left C)
+calls_in ss = filter_map (λ s. call_in s.turn) ss
 
 -- ---- that it is well kept
 
-pub record IsFrame (count : ℕ) (texts : List (List ℕ)) (shape : Shape) (i : ℕ) (f : Frame) : Type 0 where
+-- what a cell stands for can be done
+abbrev pub CanBeGoal : List (List ℕ) → Shape → Cell → Type 0
+CanBeGoal texts shape c = HasTerm (length texts) shape c × IsTrue (is_body (term_of texts shape c))
+
+abbrev pub IsWaiting : List (List ℕ) → Shape → Waiting → Type 0
+IsWaiting texts shape (waits.Do c h) = CanBeGoal texts shape c
+IsWaiting texts shape (waits.ConditionEnd h) = Unit {0}
+IsWaiting texts shape (waits.NotEnd h) = Unit {0}
+
+pub record IsFrame (texts : List (List ℕ)) (shape : Shape) (i : ℕ) (f : Frame) : Type 0 where
   pub lower : f.next ≤ i
-  pub goal_is : HasTerm count shape f.goal
-  pub body : IsTrue (is_body (raw texts shape f.goal))
+  pub what : IsWaiting texts shape f.what
 
 -- so many frames, each leading on to one below it
 abbrev pub AreFrames : List (List ℕ) → Shape → List Frame → ℕ → Type 0
-AreFrames texts shape frames n = (i : ℕ) → i < n → IsFrame (length texts) texts shape i (frame_at frames i)
+AreFrames texts shape frames n = (i : ℕ) → i < n → IsFrame texts shape i (frame_at frames i)
 
--- a call with clauses left: it can be gone back to, with the goal and the goals after it
+abbrev pub IsKeptTurn : {C : Type 0} → List (List ℕ) → Shape → Alternative C → Type 0
+IsKeptTurn texts shape (is.Clauses c) = HasTerm (length texts) shape c.goal
+IsKeptTurn texts shape (is.Right c h) = CanBeGoal texts shape c
+IsKeptTurn texts shape is.Again = Unit {0}
+IsKeptTurn texts shape is.NotMark = Unit {0}
+
+-- it can be gone back to, with its goal and the goals after it
 pub record IsChoice {C : Type 0} (texts : List (List ℕ)) (shape : Shape) (frames : List Frame) (c : Choice C) : Type 0 where
   pub mark : CanGoBack c.mark shape
   pub next : c.next ≤ c.frames
   pub frames_are : AreFrames texts (back c.mark shape) frames c.frames
-  pub goal_is : HasTerm (length texts) (back c.mark shape) c.call.goal
-  pub body : IsTrue (is_body (raw texts shape c.call.goal))
+  pub what : IsKeptTurn texts (back c.mark shape) c.what
 
 -- the newest first: each keeps no more frames than the next one, and can be gone back to from there
 abbrev pub AreChoices : {C : Type 0} → List (List ℕ) → Shape → List Frame → ℕ → Cell → List (Choice C) → Type 0
@@ -120,12 +211,12 @@ AreChoices texts shape frames n shown [] = Unit {0}
 AreChoices texts shape frames n shown (c ∷ cs) =
     IsChoice texts shape frames c × (c.frames ≤ n) × HasTerm (length texts) (back c.mark shape) shown × AreChoices texts (back c.mark shape) frames c.frames shown cs
 
--- how many frames the newest call with clauses left may need; the newest stands first
+-- how many frames the newest moment may need; the newest stands first
 abbrev pub frames_kept : {C : Type 0} → List (Choice C) → ℕ
 frames_kept [] = 0
 frames_kept (c ∷ cs) = c.frames
 
--- The store, the frames and the calls with clauses left are as they are kept.
+-- The store, the frames and the moments that may be gone back to are as they are kept.
 pub record AreTerms {C : Type 0} (t : Terms C) : Type 0 where
   pub distinct : AreDistinct t.names
   pub named : AreNamed (length t.names) t.store
@@ -136,17 +227,33 @@ pub record AreTerms {C : Type 0} (t : Terms C) : Type 0 where
 
 -- ---- what a step of the terms does
 
+-- cells stand for what they stood for
+abbrev pub KeepsCells : {C : Type 0} → Terms C → Terms C → Type 0
+KeepsCells {C} old new = (c : Cell) → IsBuilt old c → IsBuilt new c × (built new c ≡ built old c)
+
+-- terms and names were added, and nothing else was done
+pub record IsGrown {C : Type 0} (old new : Terms C) : Type 0 where
+  pub terms : AreTerms new
+  pub said_is : said new ≡ said old
+  pub names : AreLonger old.names new.names
+  pub cells : KeepsCells old new
+
 -- on with these goals where there is a unifier, and else nothing is bound
-abbrev pub IsSolved : {C : Type 0} → List Tree → Said C → Said C → Bool → Option (ℕ → Tree) → Type 0
+abbrev pub IsSolved : {C : Type 0} → List Next → Said C → Said C → Bool → Option (ℕ → Tree) → Type 0
 IsSolved goals old new done None = (done ≡ false) × (new ≡ old)
 IsSolved goals old new done (Some m) =
-    (done ≡ true) × (new ≡ record old { goals = goals ++ old.goals; bindings = λ v. substituted m (old.bindings v) })
+    (done ≡ true) × (new ≡ record old { goals = map (next_under m) (goals ++ old.goals); bindings = λ v. substituted m (old.bindings v) })
 
 -- two terms are made one
-abbrev pub AreEquated : {C : Type 0} → Tree → Tree → List Tree → Said C → Said C → Bool → Type 0
-AreEquated a b goals old new done = IsSolved goals old new done (unifier (substituted old.bindings a) (substituted old.bindings b))
+abbrev pub AreEquated : {C : Type 0} → Tree → Tree → List Next → Said C → Said C → Bool → Type 0
+AreEquated a b goals old new done = IsSolved goals old new done (unifier a b)
 
--- a clause is entered by a goal: its variables are new ones, its head and the goal are made one, and its body's goals come first
-abbrev pub IsEntered : {C : Type 0} → Tree → Clause → Said C → Said C → Bool → Type 0
-IsEntered goal c old new done =
-    AreEquated (renamed old.fresh c.head) goal (map (renamed old.fresh) (body_goals c.body)) (record old { fresh = old.fresh + c.vars }) new done
+-- a clause is entered by a goal: its variables are new ones, its head and the goal are made one, and its body's goals come first,
+-- their cut going back to a height
+abbrev pub IsEntered : {C : Type 0} → Tree → Clause → ℕ → Said C → Said C → Bool → Type 0
+IsEntered goal c cut old new done =
+    AreEquated (renamed old.fresh c.head) goal (body_from old.fresh cut c) (record old { fresh = old.fresh + c.vars }) new done
+
+-- how the newest moment would be gone back to
+abbrev pub HasNewest : {C : Type 0} → List (Saved C) → Bool → Type 0
+HasNewest {C} stack b = (below : List (Saved C)) × ((s : Saved C) × ((stack ≡ below ++ s ∷ []) × (is_open s.turn ≡ b)))

@@ -11,11 +11,11 @@ use Rattle.journal_base.specs.Looks.{most_raised, scans_of, kept_of, wants_of}
 use Rattle.journal_base.specs.View.{View, IsSound, Out, none_out, opened}
 use Rattle.journal_base.specs.declared.cause.How.{How}
 use Rattle.journal_base.specs.declared.tally.Tally.{Tally}
-use Rattle.wam_machine.specs.Terms.{Left, Said, AreTerms, said}
+use Rattle.wam_machine.specs.Terms.{Left, Turn, OfCall, OfRight, OfRepeat, OfNot, Saved, Said, AreTerms, said, calls_in}
 use Rattle.wam_machine.specs.Cursors.{Begins, goal_of, part, clauses_left, visits_left, AreNamed}
 use Rattle.wam_machine.specs.Machine as spec
-use Rattle.wam_machine.specs.Machine.{State, Setting, Outcome, Goes, Ends, Look, Clauses, Going, Failing, Raising, move, goal_move, trying, made_all, Report, Runs, beginning, shown_list}
-use Rattle.wam_machine.specs.Control.{control_of}
+use Rattle.wam_machine.specs.Machine.{State, Setting, Outcome, Goes, Ends, Look, Next, Do, Clauses, Right, Again, NotMark, Going, Failing, Raising, move, goal_move, trying, onwards, repeating, made_all, Report, Runs, beginning, shown_list, newest}
+use Rattle.wam_machine.specs.Control.{control_of, first_body}
 use Rattle.wam_machine.specs.Runs.{IsFairLook, allowances}
 use Rattle.wam_machine.specs.declared.run.Event.{Event}
 use Rattle.wam_machine.specs.declared.run.Goal.{Goal}
@@ -31,24 +31,25 @@ setting h m j = record { engine = h.engine; journal = j; start = h.start; budget
 
 -- ---- states
 
--- the newest first
-abbrev pub newest : {A B : Type 0} → (A → B) → List A → List B → List B
-newest f [] onto = onto
-newest f (x ∷ xs) onto = newest f xs (f x ∷ onto)
-
 abbrev pub mode_of : Mode → spec.Mode
 mode_of IsGoing = Going
 mode_of IsFailing = Failing
 mode_of (RaisingBall ball) = Raising ball
 
--- a call with clauses left
-abbrev pub choice_of : {C : Type 0} → (C → Asked → Journal → List ℕ) → (C → ℕ) → Journal → Left C → spec.Choice
-choice_of rest at j c = record { what = Clauses c.goal (clauses_left rest at j c); goals = c.goals; bindings = c.bindings }
+abbrev pub alternative_of : {C : Type 0} → (C → Asked → Journal → List ℕ) → (C → ℕ) → Journal → Turn C → spec.Alternative
+alternative_of rest at j (OfCall c) = Clauses c.goal (clauses_left rest at j c)
+alternative_of rest at j (OfRight goal cut) = Right goal cut
+alternative_of rest at j OfRepeat = Again
+alternative_of rest at j OfNot = NotMark
 
-abbrev pub stack_of : {C : Type 0} → (C → Asked → Journal → List ℕ) → (C → ℕ) → Journal → List (Left C) → List spec.Choice
-stack_of rest at j cs = newest (choice_of rest at j) cs []
+-- what may be gone back to
+abbrev pub choice_of : {C : Type 0} → (C → Asked → Journal → List ℕ) → (C → ℕ) → Journal → Saved C → spec.Choice
+choice_of rest at j s = record { what = alternative_of rest at j s.turn; goals = s.goals; bindings = s.bindings }
 
-abbrev pub state_from : List Tree → List spec.Choice → (ℕ → Tree) → ℕ → spec.Mode → ℕ → List Event → ℕ → List Look → ℕ → List ℕ → State
+abbrev pub stack_of : {C : Type 0} → (C → Asked → Journal → List ℕ) → (C → ℕ) → Journal → List (Saved C) → List spec.Choice
+stack_of rest at j ss = newest (choice_of rest at j) ss []
+
+abbrev pub state_from : List Next → List spec.Choice → (ℕ → Tree) → ℕ → spec.Mode → ℕ → List Event → ℕ → List Look → ℕ → List ℕ → State
 state_from goals stack bindings fresh mode steps events front looks tried fronts = record {
   mode = mode;
   goals = goals;
@@ -73,13 +74,9 @@ abbrev pub state_of : {C : Type 0} → (C → Asked → Journal → List ℕ) �
 state_of rest at j m looks tried fronts =
     state_with rest at j (said m.terms) (mode_of m.mode) m.steps m.events.items m.front looks tried fronts
 
-abbrev pub has_calls : {C : Type 0} → List (Left C) → Bool
-has_calls [] = false
-has_calls (c ∷ cs) = true
-
 -- the calls with clauses left
 abbrev pub calls : {C : Type 0} → Machine C → List (Left C)
-calls m = (said m.terms).stack
+calls m = calls_in (said m.terms).stack
 
 -- ---- cursors
 
@@ -169,9 +166,19 @@ pub record ComesToEnd {C : Type 0} (rest : C → Asked → Journal → List ℕ)
 abbrev pub Does : {C : Type 0} → (C → Asked → Journal → List ℕ) → (C → Asked → Journal → ℕ) → (C → ℕ) → (C → ℕ) → List ℕ → (State → Outcome) → Setting → Machine C → Machine C → Option RunEnd → Type 0
 Does rest may at ahead causes f x old new o = MatchOption o (GoesOn rest may at ahead causes f x.journal old new) (λ end. ComesToEnd rest at f x old new end)
 
--- a goal's move
-abbrev pub performs_goal : Setting → Tree → State → Outcome
-performs_goal x goal s = goal_move x goal s (control_of goal)
+-- a goal's move, its cut going back to a height
+abbrev pub performs_goal : Setting → Tree → ℕ → State → Outcome
+performs_goal x goal cut s = goal_move x goal cut s (control_of goal)
+
+-- A function of states goes on from the old machine to the new one, with nothing done but to the mode and the terms: no call is
+-- looked up, tried or given up.
+pub record Acts {C : Type 0} (f : State → Outcome) (old new : Machine C) : Type 0 where
+  pub terms : AreTerms new.terms
+  pub same : new ≡ record old { mode = new.mode; terms = new.terms }
+  pub shown : (said new.terms).shown ≡ (said old.terms).shown
+  pub calls_are : calls new ≡ calls old
+  pub goes : (rest : C → Asked → Journal → List ℕ) (at : C → ℕ) (j : Journal) (looks : List Look) (tried : ℕ) (fronts : List ℕ)
+      → f (state_of rest at j old looks tried fronts) ≡ Goes (state_of rest at j new looks tried fronts)
 
 -- a ball is raised
 abbrev pub IsRaising : Mode → Type 0
@@ -179,9 +186,9 @@ IsRaising mode = (ball : Tree) × (mode ≡ RaisingBall ball)
 
 -- ---- clauses that are tried
 
-abbrev pub settled_mode : Bool → Mode
-settled_mode true = IsGoing
-settled_mode false = IsFailing
+abbrev pub settled_mode : Mode → Bool → Mode
+settled_mode mode true = mode
+settled_mode mode false = IsFailing
 
 -- the first clause that is left of a call is tried, over a journal
 pub record Tries {C : Type 0} (rest : C → Asked → Journal → List ℕ) (may : C → Asked → Journal → ℕ) (at : C → ℕ) (ahead : C → ℕ) (j : Journal) (c : Left C) (old new : Machine C) : Type 0 where
@@ -189,6 +196,28 @@ pub record Tries {C : Type 0} (rest : C → Asked → Journal → List ℕ) (may
   pub tried : (looks : List Look) (tried : ℕ) (fronts : List ℕ) → trying c.goal (clauses_left rest at j c) (state_of rest at j old looks tried fronts) ≡ Goes (state_of rest at j new looks (tried + given) fronts)
   pub most : new.tally.visits + all_visits may at j (calls new) ≤ old.tally.visits + all_visits may at j ((calls old) ++ c ∷ [])
   pub least : old.tally.visits + given + aheads ahead (calls new) ≤ new.tally.visits + aheads ahead ((calls old) ++ c ∷ [])
+  pub named : All (AreNamed rest at j) (calls new)
+
+-- going on with an alternative that was taken
+abbrev pub resuming : spec.Alternative → State → Outcome
+resuming (Clauses goal rest) s = trying goal rest s
+resuming (Right goal cut) s = onwards (Do goal cut ∷ []) s
+resuming Again s = repeating s
+resuming NotMark s = Goes s
+
+-- the calls with clauses left of a turn: one at most
+abbrev pub turn_calls : {C : Type 0} → Turn C → List (Left C)
+turn_calls (OfCall c) = c ∷ []
+turn_calls (OfRight goal cut) = []
+turn_calls OfRepeat = []
+turn_calls OfNot = []
+
+-- the machine goes on with a turn, over a journal
+pub record Resumes {C : Type 0} (rest : C → Asked → Journal → List ℕ) (may : C → Asked → Journal → ℕ) (at : C → ℕ) (ahead : C → ℕ) (j : Journal) (turn : Turn C) (old new : Machine C) : Type 0 where
+  pub given : ℕ
+  pub resumed : (looks : List Look) (tried : ℕ) (fronts : List ℕ) → resuming (alternative_of rest at j turn) (state_of rest at j old looks tried fronts) ≡ Goes (state_of rest at j new looks (tried + given) fronts)
+  pub most : new.tally.visits + all_visits may at j (calls new) ≤ old.tally.visits + all_visits may at j ((calls old) ++ turn_calls turn)
+  pub least : old.tally.visits + given + aheads ahead (calls new) ≤ new.tally.visits + aheads ahead ((calls old) ++ turn_calls turn)
   pub named : All (AreNamed rest at j) (calls new)
 
 -- a clause of a call, by its name, is tried before those that are left, over a journal
@@ -218,7 +247,7 @@ no_tally = record { looks = 0; scans = 0; kept = 0; wants = 0; visits = 0; built
 
 -- what the terms say before the first move
 abbrev pub said_at_first : {C : Type 0} → Goal → Said C
-said_at_first goal = record { goals = goal.term ∷ []; bindings = variable; fresh = beyond goal.term; shown = shown_list goal.shown; stack = [] }
+said_at_first goal = record { goals = Do (first_body goal.term) 0 ∷ []; bindings = variable; fresh = beyond goal.term; shown = shown_list goal.shown; stack = [] }
 
 -- the machine before its first move
 pub record IsBeginning {C : Type 0} (goal : Goal) (start : ℕ) (m : Machine C) : Type 0 where

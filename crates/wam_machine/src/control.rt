@@ -1,7 +1,11 @@
 // What a goal is.
-ghost use Rattle.std.specs.Prelude.{◌≡◌, ◌≤◌, IfOk, length};
-ghost use Rattle.wam_machine.specs.Terms.{AreTerms, IsGoal, built};
-ghost use Rattle.wam_machine.specs.Goals.{IsControl, atom_control as atom_found, row_control as row_found, pair_control as pair_found};
+ghost use Rattle.std.specs.Prelude.{◌≡◌, ◌≤◌, ◌<◌, ◌∷◌, [], All, IfOk, length, false, codes};
+ghost use Rattle.prolog_terms.specs.Tree.{Tree, atom, compound, none, more};
+ghost use Rattle.prolog_terms.specs.Clauses.{is_named};
+ghost use Rattle.term_store.specs.Terms.{trees_of};
+ghost use Rattle.wam_machine.specs.Control.{control_of};
+ghost use Rattle.wam_machine.specs.Terms.{AreTerms, IsGoal, IsBuilt, built};
+ghost use Rattle.wam_machine.specs.Goals.{IsControl, IsFound, IsFoundNow, IsArrow};
 
 use crate::terms::Terms;
 use prolog_terms::{Indicator, Name, Want};
@@ -12,8 +16,23 @@ use term_store::{Cell, View};
 #[derive(Drop)]
 pub(crate) enum Control {
     True,
+    Fail,
+    /// The alternatives since the clause, or the local scope, began are taken away.
+    Cut,
+    Repeat,
     /// A conjunction: one goal, and then the other.
     Both(Cell, Cell),
+    /// One goal, with the other as an alternative.
+    Either(Cell, Cell),
+    /// A condition, what comes after its first answer, and what comes where it has none.
+    IfElse(Cell, Cell, Cell),
+    /// A condition, and what comes after its first answer.
+    If(Cell, Cell),
+    /// What has no answer.
+    Not(Cell),
+    /// A goal, with up to seven arguments added.
+    Call(Cell, Vec<Cell>),
+    Once(Cell),
     /// Two terms are to be made one.
     Equal(Cell, Cell),
     /// Any other goal, by its name and arity.
@@ -27,46 +46,144 @@ pub(crate) fn goal_control<C>(alloc: Global, terms: &Terms<C>, goal: Cell) -> Re
     ensures { IfOk result (IsControl terms.now (built terms.now goal)) }
 {
     terms.store.known();
-    match terms.store.node(goal) {
+    match terms.store.look(goal) {
         View::Variable(_) => unreachable!(),
         View::Integer(_) => unreachable!(),
         View::Atom(name) => atom_control(alloc, terms.names.text(name)),
-        View::Compound(name, arguments) => { row_control(alloc, terms.names.text(name), arguments) }
+        View::Compound(name, arguments) => {
+            row_control(alloc, terms, terms.names.text(name), arguments)
+        }
     }
 }
 
 /// What an atom of this name is as a goal.
 fn atom_control(alloc: Global, name: &[u8]) -> Result<Control, Want>
-    ensures { IfOk result (λ found. found ≡ atom_found name.now) }
+    ensures { IfOk result (IsFound [] (λ tree. atom name.now)) }
 {
-    if b"true".as_slice() == name {
+    if name == b"true".as_slice() {
         return Ok(Control::True);
+    }
+    if name == b"fail".as_slice() {
+        return Ok(Control::Fail);
+    }
+    if name == b"!".as_slice() {
+        return Ok(Control::Cut);
+    }
+    if name == b"repeat".as_slice() {
+        return Ok(Control::Repeat);
     }
     user(alloc, name, 0)
 }
 
 /// What a compound of this name and these arguments is as a goal.
-fn row_control(alloc: Global, name: &[u8], arguments: &[Cell]) -> Result<Control, Want>
-    requires { length arguments.now ≤ 255 }
-    ensures { IfOk result (λ found. found ≡ row_found name.now arguments.now) }
+fn row_control<C>(
+    alloc: Global,
+    terms: &Terms<C>,
+    name: &[u8],
+    arguments: &[Cell],
+) -> Result<Control, Want>
+    requires terms { AreTerms terms.now }
+    requires some { 1 ≤ length arguments.now }
+    requires few { length arguments.now ≤ 255 }
+    requires valid { All (IsBuilt terms.now) arguments.now }
+    ensures { IfOk result (IsFoundNow terms.now (compound name.now (trees_of (built terms.now) arguments.now))) }
 {
     match arguments {
-        [left, right] => pair_control(alloc, name, *left, *right),
-        _ => user(alloc, name, arguments.len() as u32),
+        [only] => one_control(alloc, name, *only),
+        [left, right] => {
+            if name == b";".as_slice() {
+                return Ok(either_control(terms, *left, *right));
+            }
+            two_control(alloc, name, *left, *right)
+        }
+        _ => more_control(alloc, name, arguments),
     }
 }
 
-/// What a compound of this name and these two arguments is as a goal.
-fn pair_control(alloc: Global, name: &[u8], left: Cell, right: Cell) -> Result<Control, Want>
-    ensures { IfOk result (λ found. found ≡ pair_found name.now left right) }
+/// What a compound of this name and this argument is as a goal.
+fn one_control(alloc: Global, name: &[u8], only: Cell) -> Result<Control, Want>
+    ensures { IfOk result (IsFound (only ∷ []) (λ tree. compound name.now (more (tree only) none))) }
 {
-    if b",".as_slice() == name {
+    if name == b"call".as_slice() {
+        return Ok(Control::Call(only, Vec::new(alloc)));
+    }
+    if name == b"once".as_slice() {
+        return Ok(Control::Once(only));
+    }
+    if name == b"\\+".as_slice() {
+        return Ok(Control::Not(only));
+    }
+    user(alloc, name, 1)
+}
+
+/// What a compound of this name, which is not `;`, and these two arguments is as a goal.
+fn two_control(alloc: Global, name: &[u8], left: Cell, right: Cell) -> Result<Control, Want>
+    requires { is_named (codes ";") name.now ≡ false }
+    ensures { IfOk result (IsFound (left ∷ right ∷ []) (λ tree. compound name.now (more (tree left) (more (tree right) none)))) }
+{
+    if name == b",".as_slice() {
         return Ok(Control::Both(left, right));
     }
-    if b"=".as_slice() == name {
+    if name == b"->".as_slice() {
+        return Ok(Control::If(left, right));
+    }
+    if name == b"=".as_slice() {
         return Ok(Control::Equal(left, right));
     }
+    if name == b"call".as_slice() {
+        let mut added = Vec::new(alloc);
+        added.push(right)?;
+        return Ok(Control::Call(left, added));
+    }
     user(alloc, name, 2)
+}
+
+/// What a compound of this name and three arguments or more is as a goal.
+fn more_control(alloc: Global, name: &[u8], arguments: &[Cell]) -> Result<Control, Want>
+    requires some { 3 ≤ length arguments.now }
+    requires few { length arguments.now ≤ 255 }
+    ensures { IfOk result (IsFound arguments.now (λ tree. compound name.now (trees_of tree arguments.now))) }
+{
+    if name == b"call".as_slice() && arguments.len() <= 8 {
+        let mut added = Vec::new(alloc);
+        added.extend_from_slice(&arguments[1..])?;
+        return Ok(Control::Call(arguments[0], added));
+    }
+    user(alloc, name, arguments.len() as u32)
+}
+
+/// What a `;` is as a goal: a condition with an else where its left side is a `->`.
+fn either_control<C>(terms: &Terms<C>, left: Cell, right: Cell) -> Control
+    requires terms { AreTerms terms.now }
+    requires left { IsBuilt terms.now left }
+    requires right { IsBuilt terms.now right }
+    ensures { IsFoundNow terms.now (compound (codes ";") (more (built terms.now left) (more (built terms.now right) none))) result }
+{
+    match arrow(terms, left) {
+        Some((condition, then)) => Control::IfElse(condition, then, right),
+        None => Control::Either(left, right),
+    }
+}
+
+/// The two sides of a `->`.
+fn arrow<C>(terms: &Terms<C>, cell: Cell) -> Option<(Cell, Cell)>
+    requires terms { AreTerms terms.now }
+    requires cell { IsBuilt terms.now cell }
+    ensures { IsArrow terms.now (built terms.now cell) result }
+{
+    terms.store.known();
+    match terms.store.look(cell) {
+        View::Compound(name, arguments) => match arguments {
+            [condition, then] => {
+                if terms.names.text(name) == b"->".as_slice() {
+                    return Some((*condition, *then));
+                }
+                None
+            }
+            _ => None,
+        },
+        _ => None,
+    }
 }
 
 /// The call of a procedure.

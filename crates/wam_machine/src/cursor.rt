@@ -5,9 +5,8 @@ ghost use Rattle.journal_base.specs.Calls.{AreKeysOf, Goal, goal_keys};
 ghost use Rattle.journal_base.specs.Journal.{Journal, procedures, clause_named};
 ghost use Rattle.journal_base.specs.Looks.{CountsLook, CountsVisits, HasRoom, given};
 ghost use Rattle.journal_base.specs.View.{Looks, InSeen, Gives, has_more, opened};
-ghost use Rattle.prolog_terms.specs.Substitutions.{substituted};
 ghost use Rattle.prolog_terms.specs.Clauses.{IsClause};
-ghost use Rattle.wam_machine.specs.Terms.{Left, said, built, call_now};
+ghost use Rattle.wam_machine.specs.Terms.{Left, built, call_now};
 ghost use Rattle.wam_machine.specs.Cursors.{Begins, goal_of, names_left, visits_left, IsOpened};
 
 use crate::terms::{Call, Opened, Terms};
@@ -26,7 +25,7 @@ pub(crate) fn open<B: Base>(
 ) -> Opened<B::Cursor>
     requires declared { InSeen (B.view base.old) (λ J. procedure < length (procedures J)) }
     requires keys { AreKeysOf terms.now.names keys.now.at }
-    requires of { goal_keys terms.now.names keys.now.at ≡ keys_in (substituted (said terms.now).bindings (built terms.now goal)) }
+    requires of { goal_keys terms.now.names keys.now.at ≡ keys_in (built terms.now goal) }
     requires room { (B.out base.old).all < 2 ^ 63 }
     requires tally { HasRoom tally.old }
 
@@ -72,7 +71,7 @@ pub(crate) fn next<B: Base>(
     requires serves { B.serves base.old call.old.cursor (goal_of (call_now terms.now call.old)) }
     requires out { 0 < (B.out base.old).of_group (B.group call.old.cursor) }
     requires keys { AreKeysOf terms.now.names keys.now.at }
-    requires of { goal_keys terms.now.names keys.now.at ≡ keys_in (substituted (said terms.now).bindings (built terms.now call.old.goal)) }
+    requires of { goal_keys terms.now.names keys.now.at ≡ keys_in (built terms.now call.old.goal) }
     requires tally { HasRoom tally.old }
 
     ensures seen { Looks (B.view base.old) (B.view base.new) }

@@ -1,6 +1,5 @@
 // The engine.
-ghost use Rattle.std.specs.Prelude.{◌≡◌, ◌≤◌, ◌^◌, IfOk, IfErr, IsTrue};
-ghost use Rattle.prolog_terms.specs.Clauses.{is_body};
+ghost use Rattle.std.specs.Prelude.{◌≡◌, ◌≤◌, ◌^◌, IfOk, IfErr};
 ghost use Rattle.journal_base.specs.View.{Looks, none_out};
 ghost use Rattle.wam_machine.specs.Runs.{IsRunOf, AreShown};
 
@@ -32,7 +31,6 @@ impl<B: Base> Engine<B> {
     /// Runs a goal, of so many steps at most, and passes the gate before each look. No cursor of the base may be out, and
     /// none is out afterwards. The run adds no entry of its engine to the journal.
     pub fn solve<R: Wait, G: Gate>(&mut self, rt: &R, goal: &Goal, budget: u64, gate: &G) -> Run
-        requires goal { IsTrue (is_body goal.now.term) }
         requires shown { AreShown goal.now }
         requires budget { (1 ≤ budget) × (budget ≤ 10 ^ 11) }
         requires out { B.out self.old.base ≡ none_out }

@@ -1,11 +1,13 @@
 // Terms that are made one, and clauses that are entered.
 ghost use Rattle.std.specs.Prelude.{◌≡◌, ◌+◌, ◌≤◌, ◌++◌, IfOk, OnOk, OnErr, IsTrue, [], map};
 ghost use Rattle.prolog_terms.specs.Clauses.{IsClause, is_body};
-ghost use Rattle.prolog_terms.specs.Substitutions.{renamed, beyond};
+ghost use Rattle.prolog_terms.specs.Substitutions.{renamed, beyond, substituted};
 ghost use Rattle.wam_machine.specs.Control.{is_true_atom, body_goals};
-ghost use Rattle.wam_machine.specs.Terms.{AreTerms, IsGoal, IsBuilt, said, built, AreEquated, IsEntered};
+ghost use Rattle.wam_machine.specs.Machine.{Do};
+ghost use Rattle.wam_machine.specs.Terms.{AreTerms, IsBuilt, said, built, AreEquated, IsEntered};
 
-use crate::terms::{Terms, push_goal};
+use crate::goals::push_next;
+use crate::terms::{Next, Terms};
 use prolog_terms::{Clause, Node, Term, Want};
 use term_store::Cell;
 
@@ -28,13 +30,19 @@ pub(crate) fn equate<C>(terms: &mut Terms<C>, left: Cell, right: Cell) -> Result
 }
 
 /// Enters a clause by a goal: its variables are new ones, its head and the goal are made one, and its body's goals come
-/// before those that are still to be done. Where head and goal have no unifier, no variable is bound.
-pub(crate) fn enter<C>(terms: &mut Terms<C>, goal: Cell, clause: &Clause) -> Result<bool, Want>
+/// before what is still to be done, with a cut that goes back to a height. Where head and goal have no unifier, no variable
+/// is bound.
+pub(crate) fn enter<C>(
+    terms: &mut Terms<C>,
+    goal: Cell,
+    clause: &Clause,
+    cut: usize,
+) -> Result<bool, Want>
     requires terms { AreTerms terms.old }
-    requires goal { IsGoal terms.old goal }
+    requires goal { IsBuilt terms.old goal }
     requires clause { IsClause clause.now }
     ensures terms { OnOk result (AreTerms terms.new) }
-    ensures entered { IfOk result (IsEntered (built terms.old goal) clause.now (said terms.old) (said terms.new)) }
+    ensures entered { IfOk result (IsEntered (built terms.old goal) clause.now cut (said terms.old) (said terms.new)) }
     ensures err { OnErr result ((said terms.new).stack ≡ (said terms.old).stack) }
 {
     terms.store.known();
@@ -45,17 +53,19 @@ pub(crate) fn enter<C>(terms: &mut Terms<C>, goal: Cell, clause: &Clause) -> Res
         terms.store.undo_to(mark);
         return Ok(false);
     }
-    push_body(terms, &clause.body, from)?;
+    push_body(terms, &clause.body, from, cut)?;
     Ok(true)
 }
 
-/// Puts a clause's body before the goals that are still to be done; a body that is `true` alone has no goal.
-fn push_body<C>(terms: &mut Terms<C>, body: &Term, from: u64) -> Result<(), Want>
+/// Puts a clause's body, as it is bound by now, before what is still to be done; a body that is `true` alone has no goal.
+fn push_body<C>(terms: &mut Terms<C>, body: &Term, from: u64, cut: usize) -> Result<(), Want>
     requires terms { AreTerms terms.old }
     requires body { IsTrue (is_body body.now) }
     requires room { from + beyond body.now ≤ terms.old.store.variables }
     ensures terms { OnOk result (AreTerms terms.new) }
-    ensures said { OnOk result (said terms.new ≡ record (said terms.old) { goals = map (renamed from) (body_goals body.now) ++ (said terms.old).goals }) }
+    ensures said { OnOk result (said terms.new ≡ record (said terms.old) {
+      goals = map (λ goal. Do (substituted (said terms.old).bindings (renamed from goal)) cut) (body_goals body.now) ++ (said terms.old).goals;
+    }) }
     ensures err { OnErr result ((said terms.new).stack ≡ (said terms.old).stack) }
 {
     terms.store.known();
@@ -63,7 +73,7 @@ fn push_body<C>(terms: &mut Terms<C>, body: &Term, from: u64) -> Result<(), Want
         return Ok(());
     }
     let goal = terms.store.put(&mut terms.names, body, from)?;
-    push_goal(terms, goal)
+    push_next(terms, Next::Do(goal, cut))
 }
 
 /// Whether it is the atom `true`.

@@ -1,11 +1,10 @@
 // The keys of a goal, as it stands.
 ghost use Rattle.std.specs.Prelude.{◌≡◌, ◌<◌, length, option_map, slice_get, IfSome};
-ghost use Rattle.prolog_terms.specs.Substitutions.{substituted};
 ghost use Rattle.journal_base.specs.Keys.{keys as keys_in, key as key_in, argument as argument_in, arguments as arguments_in};
 ghost use Rattle.journal_base.specs.Calls.{AreKeysOf, IsKeyOf, key_of, goal_keys};
 ghost use Rattle.journal_base.specs.Filling.{IsKeyAt};
 ghost use Rattle.term_store.specs.Terms.{HasTerm, term_of};
-ghost use Rattle.wam_machine.specs.Terms.{AreTerms, IsGoal, said, built};
+ghost use Rattle.wam_machine.specs.Terms.{AreTerms, IsBuilt, built};
 
 use crate::terms::Terms;
 use journal_base::{Key, Keys};
@@ -17,9 +16,9 @@ const POSITIONS: usize = 40;
 /// The keys of what a goal stands for.
 pub(crate) fn keys<C>(terms: &Terms<C>, goal: Cell) -> Keys
     requires terms { AreTerms terms.now }
-    requires goal { IsGoal terms.now goal }
+    requires goal { IsBuilt terms.now goal }
     ensures numbered { AreKeysOf terms.now.names result.at }
-    ensures keys { goal_keys terms.now.names result.at ≡ keys_in (substituted (said terms.now).bindings (built terms.now goal)) }
+    ensures keys { goal_keys terms.now.names result.at ≡ keys_in (built terms.now goal) }
 {
     let mut at = [None; POSITIONS];
     for position in 0..POSITIONS {

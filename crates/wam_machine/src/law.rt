@@ -1,14 +1,34 @@
 // Laws of the machine's definition.
-ghost use Rattle.wam_machine.specs.Machine.{TranscriptIsOne, StepsAreWithin};
+ghost use Rattle.wam_machine.specs.Machine.{TranscriptIsOne, StepsAreWithin, HasTranscript, GoalsAreBodies, EachGoalRuns, LegalHasBodies, EngineLaws};
+ghost use Rattle.wam_machine.specs.Spine.{BodiesByWalk};
 ghost use Rattle.wam_machine.specs.Rows.{HasRows};
 
-/// A goal has at most one transcript over a journal and a list of fronts, and its steps are within the budget.
+/// A goal has at most one transcript over a journal and a list of fronts, and its steps are within the budget. It has one,
+/// unless its run comes to a move that doesn't fit the journal or the fronts. Over clauses with bodies each goal is a body at its turn.
 pub fn transcript()
     ensures one { TranscriptIsOne }
     ensures within { StepsAreWithin }
+    ensures total { HasTranscript }
+    ensures goals { GoalsAreBodies }
 {}
 
 /// Worked rows of the machine's definition, computed.
 pub fn rows()
     ensures { HasRows }
+{}
+
+/// Lists and terms as an engine keeps them.
+pub fn engine_laws()
+    ensures { EngineLaws }
+{}
+
+/// A term is made a body by a walk over its goals and connectives.
+pub fn bodies_by_walk()
+    ensures { BodiesByWalk }
+{}
+
+/// Each goal has a run over clauses with bodies, as those of a legal journal are.
+pub fn each_goal_runs()
+    ensures runs { EachGoalRuns }
+    ensures legal { LegalHasBodies }
 {}

@@ -1,13 +1,21 @@
 //! The machine: it runs a goal over the clauses of a base.
 #![tactic(auto)]
 
+mod bodies;
+mod build;
+mod choices;
+mod constructs;
 mod control;
 mod cursor;
+mod cuts;
 mod engine;
 mod enter;
+mod errors;
+mod goals;
 mod keys;
 mod law;
 mod machine;
+mod procedures;
 mod run;
 mod running;
 mod shown;
@@ -15,5 +23,5 @@ mod state;
 mod terms;
 
 pub use engine::Engine;
-pub use law::{rows, transcript};
+pub use law::{bodies_by_walk, each_goal_runs, engine_laws, rows, transcript};
 pub use run::{Event, Events, Fronts, Goal, Run, RunEnd};

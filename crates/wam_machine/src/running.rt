@@ -1,19 +1,19 @@
 // A run, from its goal to its end.
 ghost use Rattle.std.specs.Prelude.{◌≡◌, ◌≤◌, ◌^◌, [], IfOk, IsTrue};
-ghost use Rattle.prolog_terms.specs.Clauses.{is_body};
 ghost use Rattle.journal_base.specs.Journal.{Journal};
 ghost use Rattle.journal_base.specs.View.{IsSound, Looks, none_out};
 ghost use Rattle.wam_machine.specs.Cursors.{Begins};
 ghost use Rattle.wam_machine.specs.Machine.{made_all};
 ghost use Rattle.wam_machine.specs.Runs.{IsRunOf, IsTranscribed, AreShown};
 ghost use Rattle.wam_machine.specs.View.{setting, calls, AreKept, IsReady, IsBeginning, run_of};
-ghost use Rattle.wam_machine.specs.Terms.{said};
+ghost use Rattle.wam_machine.specs.Terms.{said, calls_in};
 
-use crate::machine::{advance, give_up};
+use crate::cuts::cut_back;
+use crate::machine::advance;
 use crate::run::{Events, Fronts, Goal, Run, RunEnd};
 use crate::shown::begin;
 use crate::state::{Host, Machine, Mode};
-use crate::terms::{Choice, Terms};
+use crate::terms::{Terms, let_go};
 use journal_base::{Base, Gate, Tally};
 use prolog_terms::{ShownVariables, Want};
 use std::alloc::Global;
@@ -28,7 +28,6 @@ pub(crate) fn run<B: Base, R: Wait, G: Gate>(
     budget: u64,
     gate: &G,
 ) -> Result<Run, Want>
-    requires goal { IsTrue (is_body goal.now.term) }
     requires shown { AreShown goal.now }
     requires budget { budget ≤ 10 ^ 11 }
     requires out { B.out base.old ≡ none_out }
@@ -58,7 +57,6 @@ pub(crate) fn run<B: Base, R: Wait, G: Gate>(
 
 /// The machine before its first move.
 fn first<C>(alloc: Global, goal: &Goal, front: u64) -> Result<Machine<C>, Want>
-    requires goal { IsTrue (is_body goal.now.term) }
     requires shown { AreShown goal.now }
     ensures { IfOk result (IsBeginning goal.now front) }
 {
@@ -104,24 +102,16 @@ fn moves<B: Base, R: Wait, G: Gate>(
     unreachable!()
 }
 
-/// Gives up all calls with clauses left.
+/// Takes the whole stack away, and gives up its calls.
 fn clear<B: Base>(base: &mut B, terms: &mut Terms<B::Cursor>)
     requires sound { IsSound (B.view base.old) }
-    requires kept { AreKept (B.serves base.old) B.group (B.out base.old) (said terms.old).stack }
+    requires kept { AreKept (B.serves base.old) B.group (B.out base.old) (calls_in (said terms.old).stack) }
     ensures seen { Looks (B.view base.old) (B.view base.new) }
     ensures becomes { B.becomes base.old base.new }
     ensures none { terms.new.choices.items ≡ [] }
     ensures out { B.out base.new ≡ none_out }
 {
-    while let Some(choice) = terms.choices.pop() {
-        let Choice {
-            call,
-            next: _,
-            frames: _,
-            mark: _,
-        } = choice;
-        give_up(base, call);
-    }
+    cut_back(base, terms, 0);
 }
 
 /// What the machine did, as a run.
@@ -149,21 +139,6 @@ fn into_run<C>(machine: Machine<C>, engine: u32, shown: ShownVariables, end: Run
         steps,
         end,
     }
-}
-
-/// Lets terms go that have no calls left.
-fn let_go<C>(terms: Terms<C>)
-    requires { terms.choices.items ≡ [] }
-{
-    let Terms {
-        store: _,
-        names: _,
-        shown: _,
-        frames: _,
-        next: _,
-        choices,
-    } = terms;
-    choices.destroy_empty();
 }
 
 /// Lets a machine go that has no calls left.

@@ -1,25 +1,28 @@
 // The first terms of a run, and its answers' values.
-ghost use Rattle.std.specs.Prelude.{◌≡◌, ◌<◌, IfOk, IsTrue, All, Some, [], ◌∷◌, length, slice_get, codes};
+ghost use Rattle.std.specs.Prelude.{◌≡◌, ◌<◌, IfOk, OnOk, OnErr, All, Some, [], ◌∷◌, length, slice_get, codes};
 ghost use Rattle.prolog_terms.specs.Tree.{atom};
-ghost use Rattle.prolog_terms.specs.Clauses.{is_body};
 ghost use Rattle.prolog_terms.specs.Substitutions.{substituted, numbered, beyond};
 ghost use Rattle.term_store.specs.Terms.{raw, meaning, HasTerm, AreNamed};
 ghost use Rattle.term_store.specs.Later.{IsLater, AreLonger, AreDistinct};
 ghost use Rattle.wam_machine.specs.Beyond.{beyond_node as beyond_in};
-ghost use Rattle.wam_machine.specs.Machine.{shown_list};
-ghost use Rattle.wam_machine.specs.Terms.{AreTerms, said};
+ghost use Rattle.wam_machine.specs.Machine.{Do, shown_list};
+ghost use Rattle.wam_machine.specs.Control.{first_body};
+ghost use Rattle.wam_machine.specs.Terms.{AreTerms, IsBuilt, IsGoal, IsGrown, said, built};
 ghost use Rattle.wam_machine.specs.Runs.{AreShown};
 ghost use Rattle.wam_machine.specs.View.{said_at_first};
 
+use crate::bodies::body;
+use crate::build::call_goal;
+use crate::goals::push_next;
 use crate::run::Goal;
-use crate::terms::{Frame, Terms};
+use crate::terms::{Next, Terms, let_go};
 use prolog_terms::{Names, Node, Shown, Term, Want};
 use std::alloc::Global;
 use term_store::{Cell, Store};
 
-/// The terms of a run before its first move: the goal is still to be done, and its shown variables are a list.
+/// The terms of a run before its first move: the goal, made a body, is still to be done, or `call` of it where it can't be
+/// one; and its shown variables are a list.
 pub(crate) fn begin<C>(alloc: Global, goal: &Goal) -> Result<Terms<C>, Want>
-    requires body { IsTrue (is_body goal.now.term) }
     requires shown { AreShown goal.now }
     ensures terms { IfOk result AreTerms }
     ensures said { IfOk result (λ t. said t ≡ said_at_first goal.now) }
@@ -31,41 +34,67 @@ pub(crate) fn begin<C>(alloc: Global, goal: &Goal) -> Result<Terms<C>, Want>
     let first = store.put(&mut names, &goal.term, 0)?;
     store.known();
     let shown = list_of(&mut store, &mut names, goal.shown.items())?;
-    begun(alloc, store, names, first, shown)
+    let mut terms = begun(alloc, store, names, shown);
+    match begin_with(alloc, &mut terms, first) {
+        Ok(()) => Ok(terms),
+        Err(want) => {
+            let_go(terms);
+            Err(want)
+        }
+    }
 }
 
-/// The terms whose one goal is the first cell, and whose shown term is the second.
-fn begun<C>(
-    alloc: Global,
-    store: Store,
-    names: Names,
-    goal: Cell,
-    shown: Cell,
-) -> Result<Terms<C>, Want>
+/// Puts a goal, as it is run at first, before what is still to be done.
+fn begin_with<C>(alloc: Global, terms: &mut Terms<C>, goal: Cell) -> Result<(), Want>
+    requires terms { AreTerms terms.old }
+    requires goal { IsBuilt terms.old goal }
+    ensures terms { OnOk result (AreTerms terms.new) }
+    ensures said { OnOk result (said terms.new ≡ record (said terms.old) { goals = Do (first_body (built terms.old goal)) 0 ∷ (said terms.old).goals }) }
+    ensures err { OnErr result ((said terms.new).stack ≡ (said terms.old).stack) }
+{
+    let first = first_goal(alloc, terms, goal)?;
+    push_next(terms, Next::Do(first, 0))
+}
+
+/// Terms with nothing to be done yet, whose shown term is this.
+fn begun<C>(alloc: Global, store: Store, names: Names, shown: Cell) -> Terms<C>
     requires distinct { AreDistinct names }
     requires named { AreNamed (length names) store }
-    requires goal { HasTerm (length names) store goal }
-    requires body { IsTrue (is_body (raw names store goal)) }
     requires shown { HasTerm (length names) store shown }
-    ensures terms { IfOk result AreTerms }
-    ensures said { IfOk result (λ t. said t ≡ record {
-      goals = raw names store goal ∷ [];
+    ensures terms { AreTerms result }
+    ensures store { result.store ≡ store }
+    ensures names { result.names ≡ names }
+    ensures said { said result ≡ record {
+      goals = [];
       bindings = meaning names store;
       fresh = store.variables;
       shown = raw names store shown;
       stack = [];
-    }) }
+    } }
 {
-    let mut frames = Vec::new(alloc);
-    frames.push(Frame { goal, next: 0 })?;
-    Ok(Terms {
+    Terms {
         store,
         names,
         shown,
-        frames,
-        next: 1,
+        frames: Vec::new(alloc),
+        next: 0,
         choices: Vec::new(alloc),
-    })
+    }
+}
+
+/// The body as which a goal is run at first.
+fn first_goal<C>(alloc: Global, terms: &mut Terms<C>, goal: Cell) -> Result<Cell, Want>
+    requires terms { AreTerms terms.old }
+    requires goal { IsBuilt terms.old goal }
+    ensures grown { OnOk result (IsGrown terms.old terms.new) }
+    ensures goal { IfOk result (IsGoal terms.new) }
+    ensures first { IfOk result (λ c. built terms.new c ≡ first_body (built terms.old goal)) }
+    ensures err { OnErr result ((said terms.new).stack ≡ (said terms.old).stack) }
+{
+    match body(alloc, terms, goal)? {
+        Some(made) => Ok(made),
+        None => call_goal(terms, goal),
+    }
 }
 
 /// A number above each variable of a term. Want is answered too where no number is.

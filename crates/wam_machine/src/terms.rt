@@ -1,11 +1,8 @@
-// The terms of a run: the goals that are still to be done, and the calls with clauses left.
-ghost use Rattle.std.specs.Prelude.{◌≡◌, ◌≢◌, ℕ, ◌+◌, ◌≤◌, ◌++◌, ◌∷◌, [], List, IfOk, OnOk, OnErr, IfErr, None, Some, MatchOption, length, reverse};
-ghost use Rattle.wam_machine.specs.Terms.{AreTerms, IsGoal, IsBuilt, said, built, call_now, Left, Said, frames_kept};
-ghost use Rattle.wam_machine.specs.View.{has_calls};
+// The terms of a run: what is still to be done, and what may be gone back to.
+ghost use Rattle.std.specs.Prelude.{◌≡◌, []};
 
 use journal_base::How;
-use prolog_terms::{Names, Want};
-use std::alloc::AllocFailed;
+use prolog_terms::Names;
 use term_store::{Cell, Store, Trailed};
 
 /// A call whose clauses are tried one after another: its goal, its procedure, and the cursor over the clauses that are left.
@@ -21,23 +18,48 @@ pub(crate) struct Opened<C> {
     pub how: How,
 }
 
-/// A goal that is still to be done, and the number of the frame with the goals after it; 0 is none.
+/// What is still to be done.
+#[derive(Clone, Copy)]
+pub(crate) enum Next {
+    /// A goal, and the height of the stack to which its cut goes back.
+    Do(Cell, usize),
+    /// The end of a condition, and the height of the stack before it.
+    ConditionEnd(usize),
+    /// The end of the goal of a `\+`, and the height of the stack before it.
+    NotEnd(usize),
+}
+
+/// What is still to be done, and the number of the frame with what comes after it; 0 is none.
 #[derive(Clone, Copy)]
 pub(crate) struct Frame {
-    pub goal: Cell,
+    pub what: Next,
     pub next: usize,
 }
 
-/// A call with clauses left, and its moment: the goals after it, how many frames they may stand in, and the store's mark.
+/// How the machine goes on where it goes back.
+pub(crate) enum Alternative<C> {
+    /// With the clauses that are left of a call.
+    Clauses(Call<C>),
+    /// With the right side of a `;`, or an else, and the height to which its cut goes back.
+    Right(Cell, usize),
+    /// With a further turn of `repeat`.
+    Again,
+    /// Behind a `\+`. This is a mark, and no alternative.
+    NotMark,
+}
+
+/// A moment that may be gone back to: how the machine then goes on, what comes after that, how many frames it may stand in,
+/// and the store's mark.
 pub(crate) struct Choice<C> {
-    pub call: Call<C>,
+    pub what: Alternative<C>,
     pub next: usize,
     pub frames: usize,
     pub mark: Trailed,
 }
 
-/// The terms of a run, in a store: the goals that are still to be done stand in frames, each of which leads on to one below
-/// it; calls with clauses left, the newest last; and the term of which an answer gives the value.
+/// The terms of a run, in a store: what is still to be done stands in frames, each of which leads on to one below it; the
+/// moments that may be gone back to, the newest last, whose number is the height of the stack; and the term of which an
+/// answer gives the value.
 pub(crate) struct Terms<C> {
     pub store: Store,
     pub names: Names,
@@ -47,116 +69,17 @@ pub(crate) struct Terms<C> {
     pub choices: Vec<Choice<C>>,
 }
 
-/// Takes the next goal; none is left where the answer is none.
-pub(crate) fn take_goal<C>(terms: &mut Terms<C>) -> Option<Cell>
-    requires terms { AreTerms terms.old }
-    ensures terms { AreTerms terms.new }
-    ensures names { terms.new.names ≡ terms.old.names }
-    ensures none { MatchOption result ((said terms.old).goals ≡ []) (λ goal. (said terms.old).goals ≡ built terms.new goal ∷ (said terms.new).goals) }
-    ensures goal { MatchOption result (terms.new ≡ terms.old) (λ goal. IsGoal terms.new goal) }
-    ensures same { said terms.new ≡ record (said terms.old) { goals = (said terms.new).goals } }
+/// Lets terms go that have no moment left to go back to.
+pub(crate) fn let_go<C>(terms: Terms<C>)
+    requires { terms.choices.items ≡ [] }
 {
-    if terms.next == 0 {
-        return None;
-    }
-    let at = terms.next - 1;
-    let frame = terms.frames[at];
-    terms.next = frame.next;
-    if kept_frames(terms) <= at {
-        terms.frames.truncate(at);
-    }
-    Some(frame.goal)
-}
-
-/// How many frames the newest call with clauses left may need.
-fn kept_frames<C>(terms: &Terms<C>) -> usize
-    ensures { result ≡ frames_kept (reverse terms.now.choices.items) }
-{
-    match terms.choices.last() {
-        Some(choice) => choice.frames,
-        None => 0,
-    }
-}
-
-/// Puts a goal before those that are still to be done.
-pub(crate) fn push_goal<C>(terms: &mut Terms<C>, goal: Cell) -> Result<(), Want>
-    requires terms { AreTerms terms.old }
-    requires goal { IsGoal terms.old goal }
-    ensures terms { AreTerms terms.new }
-    ensures names { terms.new.names ≡ terms.old.names }
-    ensures said { OnOk result (said terms.new ≡ record (said terms.old) { goals = built terms.old goal ∷ (said terms.old).goals }) }
-    ensures err { OnErr result (said terms.new ≡ said terms.old) }
-    ensures cells { (c : Cell) → IsGoal terms.old c → IsGoal terms.new c × (built terms.new c ≡ built terms.old c) }
-{
-    terms.frames.push(Frame {
-        goal,
-        next: terms.next,
-    })?;
-    terms.next = terms.frames.len();
-    Ok(())
-}
-
-/// Leaves a call as the newest with clauses left. For want of memory it is handed back.
-pub(crate) fn leave<C>(terms: &mut Terms<C>, call: Call<C>) -> Result<(), AllocFailed<Call<C>>>
-    requires terms { AreTerms terms.old }
-    requires goal { IsGoal terms.old call.goal }
-    ensures terms { AreTerms terms.new }
-    ensures names { terms.new.names ≡ terms.old.names }
-    ensures said { OnOk result (said terms.new ≡ record (said terms.old) { stack = (said terms.old).stack ++ call_now terms.old call ∷ [] }) }
-    ensures err { IfErr result (λ failed. (failed.value ≡ call) × (said terms.new ≡ said terms.old)) }
-    ensures goal { IsGoal terms.new call.goal }
-    ensures built { built terms.new call.goal ≡ built terms.old call.goal }
-{
-    let mark = terms.store.mark();
-    let choice = Choice {
-        call,
-        next: terms.next,
-        frames: terms.frames.len(),
-        mark,
-    };
-    match terms.choices.push(choice) {
-        Ok(()) => Ok(()),
-        Err(failed) => {
-            let AllocFailed { value } = failed;
-            let Choice {
-                call,
-                next: _,
-                frames: _,
-                mark: _,
-            } = value;
-            Err(AllocFailed { value: call })
-        }
-    }
-}
-
-/// Goes back to the moment of the newest call with clauses left, and takes it up again.
-pub(crate) fn go_back<C>(terms: &mut Terms<C>) -> Option<Call<C>>
-    requires terms { AreTerms terms.old }
-    ensures terms { AreTerms terms.new }
-    ensures names { terms.new.names ≡ terms.old.names }
-    ensures none { MatchOption result ((said terms.old).stack ≡ []) (λ call. (said terms.old).stack ≡ (said terms.new).stack ++ call_now terms.new call ∷ []) }
-    ensures goal { MatchOption result (terms.new ≡ terms.old) (λ call. IsGoal terms.new call.goal) }
-    ensures fresh { (said terms.new).fresh ≡ (said terms.old).fresh }
-    ensures shown { (said terms.new).shown ≡ (said terms.old).shown }
-{
-    if terms.choices.is_empty() {
-        return None;
-    }
-    let Choice {
-        call,
-        next,
-        frames,
-        mark,
-    } = terms.choices.pop()?;
-    terms.store.undo_to(mark);
-    terms.frames.truncate(frames);
-    terms.next = next;
-    Some(call)
-}
-
-/// Whether a call with clauses is left.
-pub(crate) fn any_left<C>(terms: &Terms<C>) -> bool
-    ensures { result ≡ has_calls (said terms.now).stack }
-{
-    !terms.choices.is_empty()
+    let Terms {
+        store: _,
+        names: _,
+        shown: _,
+        frames: _,
+        next: _,
+        choices,
+    } = terms;
+    choices.destroy_empty();
 }

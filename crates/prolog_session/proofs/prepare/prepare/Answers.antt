@@ -1,14 +1,13 @@
 use Rattle.std.proofs.Common.{sym, ap, ◌∙◌}
 use Rattle.journal_base.specs.Plain.{Plain}
-use Rattle.prolog_session.proofs.Under.{has_command, no_refusal, refused_under, ran_under}
+use Rattle.prolog_session.proofs.Under.{no_refusal, refused_under, ran_under}
 use Rattle.prolog_session.proofs.prepare.prepare.Goals as goal
 
 pub returns-in-Some-refused-clause-prepares : goal.returns-in-Some-refused-clause-prepares
 returns-in-Some-refused-clause-prepares g c =
-    let l = c.in_ok-load.ensures in (
-      has_command _ _ (sym c.in_ok-command.ensures.command ∙ c.in-Some.is),
-      refused_under _ _ _ _ _ _ _ _ _ _ c.in-Whole.ensures.reads c.deref.ensures.value (c.into_entries.ensures ∙ ap (λ (b : Plain). b.entries) l.base) l.runs l.operators l.refused c.in-Some-refused.is,
-    )
+    let l = c.in_ok-load.ensures in
+    refused_under _ _ _ _ _ _ _ _ _ _ _ _ _ c.in-Whole.ensures.reads c.deref.ensures.value c.into_entries.ensures (ap (λ (b : Plain). b.entries) l.base) l.runs l.operators l.refused
+    c.in-Some-refused.is (sym c.in_ok-command.ensures.command ∙ c.in-Some.is)
 
 pub returns-clause-prepares : goal.returns-clause-prepares
 returns-clause-prepares g c =

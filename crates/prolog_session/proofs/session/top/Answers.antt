@@ -5,13 +5,13 @@ use Rattle.journal_base.specs.Legal.{Legal}
 use Rattle.wam_machine.specs.declared.run.Run.{Run}
 use Rattle.prolog_session.specs.FaultCounts.{Rose}
 use Rattle.prolog_session.specs.Words.{command_of}
-use Rattle.prolog_session.specs.Load.{load_runs_of, operators_of, refusal_of}
+use Rattle.prolog_session.specs.Load.{IsLoadOf, operators_of, refusal_of}
 use Rattle.prolog_session.specs.Errors.{refusal_text}
 use Rattle.prolog_session.specs.Output.{load_text, output_of}
 use Rattle.prolog_session.specs.Sinks.{AppendsPrefix}
 use Rattle.std.specs.Io.KnownBytes.{Appends}
-use Rattle.prolog_session.specs.Runs.{AreRunsBehind, EndsInBall, EndsSpent}
-use Rattle.prolog_session.specs.Headline.{Ends, expected, IsRun, HasRuns, IsLoaded, IsEmpty, IsStatus, HasRun, HasWritten, HasRefused, Gains}
+use Rattle.prolog_session.specs.Runs.{EndsInBall, EndsSpent}
+use Rattle.prolog_session.specs.Headline.{Ends, expected, IsRun, HasRuns, IsLoaded, IsEmpty, IsStatus, AreRunsOf, HasRun, HasWritten, HasRefused, Gains}
 use Rattle.prolog_session.specs.Ends.{final_runs}
 use Rattle.prolog_session.proofs.Rows.{bad_words_row, source_row, too_long_row, refused_row, sink_row, ball_row, spent_row, exhausted_row}
 use Rattle.prolog_session.proofs.Outcomes.{load_runs_row, ran_row, runs_told, output_row, output_cut_row, output_told_row, refusal_told_row, empty_row, legal_row, text_row, shown_bad_words, shown_source, shown_too_long, in_part_row, complete_row, unread_row, too_long_read_row, wanted_row, statuses_row}
@@ -71,14 +71,14 @@ returns-clause-loaded g c = let f = c.finish.ensures.finishes in λ e.
 pub returns-clause-runs : goal.returns-clause-runs
 returns-clause-runs g c = let f = c.finish.ensures.finishes in λ e.
     let P : Journal → List Run → Type 0 = λ journal runs. IfSome (g.S.Source.left c.args.source.now) (λ text. IfSome (command_of (map string_bytes c.args.words.now))
-    (λ command. AreRunsBehind (load_runs_of c.args.sizes text) command journal runs)) in
+    (λ command. AreRunsOf c.args.sizes text command journal runs)) in
     let row = runs_told _ _ _ _ _ _ (ran_row _ _ _ _ _ f.written c.prepare-prepared.ensures.prepares (subst HasRuns f.status_is e)) in
     subst (λ (runs : List Run). P c.finish.result.journal runs) (sym f.runs_are)
     (subst (λ (journal : Journal). P journal (final_runs c.prepare-prepared.result f.written)) (sym f.journal_is) row)
 
 pub returns-clause-loaded_in_part : goal.returns-clause-loaded_in_part
 returns-clause-loaded_in_part g c = let f = c.finish.ensures.finishes in λ e.
-    let P : Journal → List Run → Type 0 = λ journal runs. HasRefused c.args.sizes (g.S.Source.left c.args.source.now) (g.S.Source.left c.prepare-prepared.new.source) journal runs
+    let P : Journal → List Run → Type 0 = λ journal runs. HasRefused c.args.sizes (command_of (map string_bytes c.args.words.now)) (g.S.Source.left c.args.source.now) (g.S.Source.left c.prepare-prepared.new.source) journal runs
     (Rose (g.K.Sink.faults c.args.sink.now) (g.K.Sink.faults c.finish.new.sink)) (g.K.Sink.written c.args.sink.now) (g.K.Sink.written c.finish.new.sink) in
     let row = in_part_row _ _ _ _ _ _ _ _ f.written c.prepare-prepared.ensures.prepares f.prefix f.whole f.cut (sym f.status_is ∙ e) in
     subst (λ (runs : List Run). P c.finish.result.journal runs) (sym f.runs_are)
@@ -112,7 +112,7 @@ returns-clause-refusal_text g c = let f = c.finish.ensures.finishes in λ e.
     Gains (Rose (g.K.Sink.faults c.args.sink.now) (g.K.Sink.faults c.finish.new.sink)) (g.K.Sink.written c.args.sink.now) (g.K.Sink.written c.finish.new.sink)
     (load_text (operators_of text) runs ++ refusal_text refusal))) in
     subst P (sym f.runs_are)
-    (refusal_told_row _ _ _ _ _ _ _ _ (in_part_row _ _ _ _ _ _ _ _ f.written c.prepare-prepared.ensures.prepares f.prefix f.whole f.cut (sym f.status_is ∙ e)))
+    (refusal_told_row _ _ _ _ _ _ _ _ _ (in_part_row _ _ _ _ _ _ _ _ f.written c.prepare-prepared.ensures.prepares f.prefix f.whole f.cut (sym f.status_is ∙ e)))
 
 pub returns-clause-legal : goal.returns-clause-legal
 returns-clause-legal g c = let f = c.finish.ensures.finishes in λ e.
@@ -120,8 +120,11 @@ returns-clause-legal g c = let f = c.finish.ensures.finishes in λ e.
 
 pub returns-clause-load_runs : goal.returns-clause-load_runs
 returns-clause-load_runs g c = let f = c.finish.ensures.finishes in λ e.
-    let P : List Run → Type 0 = λ runs. IfSome (g.S.Source.left c.args.source.now) (λ text. runs ≡ load_runs_of c.args.sizes text) in
-    subst P (sym f.runs_are) (load_runs_row _ _ _ _ _ f.written c.prepare-prepared.ensures.prepares (sym f.status_is ∙ e))
+    let P : Journal → List Run → Type 0 = λ journal runs. IfSome (g.S.Source.left c.args.source.now) (λ text. IfSome (command_of (map string_bytes c.args.words.now))
+    (λ command. IsLoadOf c.args.sizes command.steps text journal runs)) in
+    let row = load_runs_row _ _ _ _ _ f.written c.prepare-prepared.ensures.prepares (sym f.status_is ∙ e) in
+    subst (λ (runs : List Run). P c.finish.result.journal runs) (sym f.runs_are)
+    (subst (λ (journal : Journal). P journal (final_runs c.prepare-prepared.result f.written)) (sym f.journal_is) row)
 
 pub returns-clause-empty_journal : goal.returns-clause-empty_journal
 returns-clause-empty_journal g c = let f = c.finish.ensures.finishes in λ e. f.journal_is ∙ (empty_row _ f.written (subst IsEmpty f.status_is e)).0

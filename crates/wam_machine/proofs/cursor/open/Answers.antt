@@ -4,7 +4,7 @@ use Rattle.journal_base.specs.Calls.{Goal, goal_keys}
 use Rattle.journal_base.specs.Candidates.{candidates}
 use Rattle.journal_base.specs.Looks.{IsFair, allowance, most_raised}
 use Rattle.journal_base.specs.View.{View}
-use Rattle.wam_machine.specs.Cursors.{asked, goal_of, part, names_left, visits_left}
+use Rattle.wam_machine.specs.Cursors.{goal_of, part, names_left, visits_left}
 use Rattle.wam_machine.specs.Terms.{Left, call_now}
 use Rattle.wam_machine.proofs.Begins.{seen_in}
 use Rattle.wam_machine.proofs.Chains.{fair_before}
@@ -25,7 +25,7 @@ returns-clause-opened g c before le j b =
     let low : at choice.cursor ≤ new.seen = omega (arith, here) in
     let whole : take new.seen j ≡ part at j choice = ap (λ n. take n j) (sym here) in
     let same : ◌≡◌ {A = Goal} call (goal_of choice) = ap {B = Goal} (λ k. record { procedure = c.args.procedure; keys = k }) c.requires.of in
-    let offered : names_left rest at j choice ≡ candidates (part at j choice) c.args.procedure (keys (asked choice)) =
+    let offered : names_left rest at j choice ≡ candidates (part at j choice) c.args.procedure (keys choice.goal) =
     sym (names_seen rest at g.met.B.Base.rest_local j new.seen choice ks low c.requires.of)
     ∙ seen_in new (λ J. rest choice.cursor call J ≡ candidates J c.args.procedure ks) j c.look-cursor.ensures.clauses b
     ∙ ap (λ J. candidates J c.args.procedure ks) whole ∙ ap (candidates (part at j choice) c.args.procedure) c.requires.of in

@@ -5,7 +5,7 @@ use Rattle.wam_machine.specs.Terms.{said}
 use Rattle.term_store.proofs.Laws.{later-further, are_named-variables}
 use Rattle.wam_machine.proofs.Told.{at_err, stack-later, terms-later}
 use Rattle.wam_machine.proofs.Entered.{undone, numbered-below}
-use Rattle.wam_machine.proofs.Entries.{IsPut, grows-put, goal-put, terms-fresh, entered-refused, grows-unified, variables-unified, entered-unified}
+use Rattle.wam_machine.proofs.Entries.{IsPut, grows-put, goal-put, terms-fresh, entered-refused, grows-unified, variables-unified, still-entered, entered-unified, fresh-is}
 use Rattle.wam_machine.proofs.enter.enter.Goals as goal
 
 pub put-requires-clause-variables : goal.put-requires-clause-variables
@@ -48,7 +48,7 @@ unify-requires-clause-b g c =
       longer = c.put.ensures.texts;
       distinct = c.put.ensures.distinct;
     } in
-    (goal-put t c.put.new.names c.fresh.new.self c.put.new.self c.args.clause.now.vars p c.args.goal c.requires.goal.built_is).0
+    (goal-put t c.put.new.names c.fresh.new.self c.put.new.self c.args.clause.now.vars p c.args.goal c.requires.goal).0
 
 pub returns-in_err-unify-clause-err : goal.returns-in_err-unify-clause-err
 returns-in_err-unify-clause-err g c =
@@ -98,9 +98,9 @@ returns-then-not-branch-clause-entered g c =
     entered-refused t c.put.new.names c.fresh.new.self c.put.new.self c.args.clause.now.vars p c.undo_to.new.self
     (c.undo_to.ensures ∙ undone c.mark-mark.result c.fresh.new.self c.unify.new.self c.mark-mark.ensures.can c.mark-mark.ensures.same
     (later-further c.fresh.new.self c.put.new.self c.unify.new.self c.put.ensures.later c.unify.ensures.later) (c.unify.ensures.variables ∙ c.put.ensures.variables))
-    c.args.clause.now refl c.in_ok-head.head c.args.goal c.in_ok-from.from c.in_ok-from.ensures.first c.in_ok-head.ensures.term c.requires.goal.built_is
+    c.args.clause.now c.args.cut refl c.in_ok-head.head c.args.goal c.in_ok-from.from c.in_ok-from.ensures.first c.in_ok-head.ensures.term c.requires.goal
     (c.in_ok-unify.ensures.refused c.if-not-branch.true c.put.new.names c.put.ensures.distinct c.put.ensures.named
-    c.in_ok-head.ensures.cell (goal-put t c.put.new.names c.fresh.new.self c.put.new.self c.args.clause.now.vars p c.args.goal c.requires.goal.built_is))
+    c.in_ok-head.ensures.cell (goal-put t c.put.new.names c.fresh.new.self c.put.new.self c.args.clause.now.vars p c.args.goal c.requires.goal))
 
 pub push_body-requires-clause-terms : goal.push_body-requires-clause-terms
 push_body-requires-clause-terms g c =
@@ -115,8 +115,10 @@ push_body-requires-clause-terms g c =
       longer = c.put.ensures.texts;
       distinct = c.put.ensures.distinct;
     } in
-    terms-later t c.put.new.names c.unify.new.self c.requires.terms (grows-unified t c.put.new.names c.fresh.new.self c.put.new.self c.args.clause.now.vars p c.unify.new.self c.unify.ensures.later c.unify.ensures.variables) c.put.ensures.distinct
-    (c.unify.ensures.named (length c.put.new.names) c.put.ensures.named c.in_ok-head.ensures.cell (goal-put t c.put.new.names c.fresh.new.self c.put.new.self c.args.clause.now.vars p c.args.goal c.requires.goal.built_is))
+    terms-later t c.put.new.names c.unify.new.self c.requires.terms (grows-unified t c.put.new.names c.fresh.new.self c.put.new.self c.args.clause.now.vars p c.unify.new.self c.unify.ensures.later c.unify.ensures.variables)
+    (still-entered t c.put.new.names c.fresh.new.self c.put.new.self c.args.clause.now.vars p c.unify.new.self c.unify.ensures.later c.unify.ensures.variables c.unify.ensures.compounds c.in_ok-head.head c.args.goal
+    (c.in_ok-unify.ensures.unified c.if-not-branch.false c.put.new.names)) c.put.ensures.distinct
+    (c.unify.ensures.named (length c.put.new.names) c.put.ensures.named c.in_ok-head.ensures.cell (goal-put t c.put.new.names c.fresh.new.self c.put.new.self c.args.clause.now.vars p c.args.goal c.requires.goal))
 
 pub push_body-requires-clause-room : goal.push_body-requires-clause-room
 push_body-requires-clause-room g c =
@@ -165,6 +167,6 @@ returns-clause-entered g c =
       longer = c.put.ensures.texts;
       distinct = c.put.ensures.distinct;
     } in
-    entered-unified t c.put.new.names c.fresh.new.self c.put.new.self c.args.clause.now.vars p c.unify.new.self c.unify.ensures.later c.unify.ensures.variables
-    c.args.clause.now refl c.in_ok-head.head c.args.goal c.in_ok-from.from c.in_ok-from.ensures.first c.in_ok-head.ensures.term c.requires.goal.built_is
-    (c.in_ok-unify.ensures.unified c.if-not-branch.false c.put.new.names) (said c.push_body.new.terms) c.in_ok-push_body.ensures.said
+    entered-unified t c.put.new.names c.fresh.new.self c.put.new.self c.args.clause.now.vars p c.unify.new.self c.unify.ensures.later c.unify.ensures.variables c.unify.ensures.compounds c.in_ok-head.head c.args.goal
+    (c.in_ok-unify.ensures.unified c.if-not-branch.false c.put.new.names) c.args.clause.now c.args.cut refl c.in_ok-from.from (c.in_ok-from.ensures.first ∙ sym (fresh-is t c.put.new.names c.fresh.new.self c.put.new.self c.args.clause.now.vars p)) c.in_ok-head.ensures.term c.requires.goal
+    (said c.push_body.new.terms) c.in_ok-push_body.ensures.said

@@ -3,8 +3,9 @@ use Rattle.term_store.specs.Shape.{Shape}
 use Rattle.term_store.specs.Terms.{IsShape}
 use Rattle.wam_machine.specs.Terms.{said, IsBuilt, AreTerms}
 use Rattle.term_store.proofs.Laws.{longer-itself}
+use Rattle.wam_machine.proofs.Grown.{Grows}
 use Rattle.wam_machine.proofs.Told.{at_err, stack-later, terms-later}
-use Rattle.wam_machine.proofs.Entered.{equated-unified, equated-refused, undone}
+use Rattle.wam_machine.proofs.Entered.{equated-unified, equated-refused, still-unified, undone}
 use Rattle.wam_machine.proofs.enter.equate.Goals as goal
 
 pub unify-requires-clause-a : goal.unify-requires-clause-a
@@ -29,13 +30,14 @@ returns-in_err-unify-clause-err g c = let t = c.args.terms.now in
 pub returns-then-branch-clause-terms : goal.returns-then-branch-clause-terms
 unfolding IsBuilt
 returns-then-branch-clause-terms g c = let t = c.args.terms.now in
-    terms-later t t.names c.unify.new.self c.requires.terms
-    (record {
+    let grows : Grows t.names t.names t.store c.unify.new.self = record {
       formed = subst IsShape c.mark-mark.ensures.same c.mark-mark.ensures.can.formed;
       named = c.requires.terms.named;
       later = c.unify.ensures.later;
       longer = longer-itself t.names;
-    })
+    } in
+    terms-later t t.names c.unify.new.self c.requires.terms grows
+    (still-unified t c.unify.new.self c.args.left c.args.right grows c.unify.ensures.compounds (c.in_ok-unify.ensures.unified c.if-branch.true t.names))
     c.requires.terms.distinct (c.unify.ensures.named (length t.names) c.requires.terms.named c.requires.left c.requires.right)
 
 pub returns-then-branch-clause-equated : goal.returns-then-branch-clause-equated
@@ -47,7 +49,7 @@ returns-then-branch-clause-equated g c = let t = c.args.terms.now in
       later = c.unify.ensures.later;
       longer = longer-itself t.names;
     })
-    c.unify.ensures.variables (c.in_ok-unify.ensures.unified c.if-branch.true t.names)
+    c.unify.ensures.compounds c.unify.ensures.variables (c.in_ok-unify.ensures.unified c.if-branch.true t.names)
 
 pub returns-clause-terms : goal.returns-clause-terms
 returns-clause-terms g c = let t = c.args.terms.now in

@@ -1,46 +1,26 @@
-use Rattle.std.proofs.Common.{◌∙◌, ◌++◌, ◌∷◌, [], ap, refl, subst}
-use Rattle.wam_machine.specs.Machine.{Setting}
-use Rattle.wam_machine.specs.Terms.{Said, said, built}
+use Rattle.std.proofs.Common.{sym, ◌≡◌, ◌++◌, ◌∷◌, [], refl, ap, ◌∙◌, subst}
 use Rattle.prolog_terms.specs.Substitutions.{substituted, numbered}
-use Rattle.wam_machine.specs.View.{setting, has_calls, performs_goal, Does}
+use Rattle.wam_machine.specs.Machine.{Setting, Do, ConditionEnd, NotEnd, Goes, fails, cut_back}
+use Rattle.wam_machine.specs.Terms.{Said, said, built, next_now, is_any_open}
+use Rattle.wam_machine.specs.View.{setting, performs_goal, Does}
 use Rattle.wam_machine.specs.declared.run.Event.TheVariants.{Answer}
 use Rattle.wam_machine.specs.declared.state.Machine.{Machine}
+use Rattle.wam_machine.specs.declared.state.Mode.TheVariants.{Failing as IsFailing}
+use Rattle.wam_machine.specs.declared.terms.Next.{Next as Waiting}
 use Rattle.wam_machine.specs.declared.terms.Terms.{Terms}
+use Rattle.wam_machine.proofs.Acted.{if_ok}
 use Rattle.wam_machine.proofs.Begins.{looks_refl}
-use Rattle.wam_machine.proofs.Performed.{is_both}
-use Rattle.wam_machine.proofs.Going.{is_simple, same_setting, still_ready, does_answer, does_next, does_next_so, does_both, left_through}
+use Rattle.wam_machine.proofs.Going.{same_setting, ready_taken, does_answer, goes_next, does_next}
 use Rattle.wam_machine.proofs.machine.go_on.Goals as goal
 
-pub returns-in_err-conjoin-in-Some-clause-seen : goal.returns-in_err-conjoin-in-Some-clause-seen
-returns-in_err-conjoin-in-Some-clause-seen g c = looks_refl _ c.requires.ready.sound
+pub do_goal-requires-clause-ready : goal.do_goal-requires-clause-ready
+do_goal-requires-clause-ready g c = ready_taken _ _ _ _ _ _ _ _ c.args.machine.now c.take_next.new.terms c.requires.ready c.in-Some-Do.ensures.terms c.in-Some-Do.ensures.same
 
-pub returns-in-Both-clause-seen : goal.returns-in-Both-clause-seen
-returns-in-Both-clause-seen g c = looks_refl _ c.requires.ready.sound
+pub cut_stack-requires : goal.cut_stack-requires
+cut_stack-requires g c = record { ready = ready_taken _ _ _ _ _ _ _ _ c.args.machine.now c.take_next.new.terms c.requires.ready c.in-Some-ConditionEnd.ensures.terms c.in-Some-ConditionEnd.ensures.same }
 
-pub returns-in-Both-clause-moves : goal.returns-in-Both-clause-moves
-returns-in-Both-clause-moves g c = λ j b.
-    let m = c.args.machine.now in
-    let mid = record m { terms = c.take_goal.new.terms } in
-    let t = built mid.terms c.in-Some.goal in
-    let e = c.in_ok-conjoin-in-Some.ensures in
-    let x = setting c.args.host.now m j in
-    let held = (still_ready _ _ _ _ _ _ _ _ m mid c.requires.ready c.in-Some.ensures.terms (ap (λ (u : Said _). u.stack) c.in-Some.ensures.same) refl refl refl).each j b in
-    does_next g.B.Base.rest g.B.Base.may_visit g.B.Base.looked_at g.B.Base.ahead _ x j m mid c.conjoin.new.machine t c.requires.going c.in-Some.ensures.none c.in-Some.ensures.same refl
-    (does_both g.B.Base.rest g.B.Base.may_visit g.B.Base.looked_at g.B.Base.ahead _ x j mid c.conjoin.new.machine t (built mid.terms c.in-Both.left) (built mid.terms c.in-Both.right)
-    (is_both mid.terms t c.in_ok-control-in-Some.control c.in-Both.left c.in-Both.right c.in_ok-control-in-Some.ensures c.in-Both.is) e.same e.said held)
-
-pub perform-requires : goal.perform-requires
-perform-requires g c =
-    let m = c.args.machine.now in
-    let mid = record m { terms = c.take_goal.new.terms } in
-    record {
-      goal = c.in-Some.ensures.goal;
-      control = c.in_ok-control-in-Some.ensures;
-      simple = is_simple c.in_ok-control-in-Some.control (λ a b e. c.in_default.not-Both a b e);
-      going = c.requires.going;
-      ready = still_ready _ _ _ _ _ _ _ _ m mid c.requires.ready c.in-Some.ensures.terms (ap (λ (u : Said _). u.stack) c.in-Some.ensures.same) refl refl refl;
-      budget = c.requires.budget;
-    }
+pub end_not-requires : goal.end_not-requires
+end_not-requires g c = record { ready = ready_taken _ _ _ _ _ _ _ _ c.args.machine.now c.take_next.new.terms c.requires.ready c.in-Some-NotEnd.ensures.terms c.in-Some-NotEnd.ensures.same }
 
 pub returns-in_ok-answer-in-None-clause-seen : goal.returns-in_ok-answer-in-None-clause-seen
 returns-in_ok-answer-in-None-clause-seen g c = looks_refl _ c.requires.ready.sound
@@ -48,28 +28,43 @@ returns-in_ok-answer-in-None-clause-seen g c = looks_refl _ c.requires.ready.sou
 pub returns-in_ok-answer-in-None-clause-moves : goal.returns-in_ok-answer-in-None-clause-moves
 returns-in_ok-answer-in-None-clause-moves g c = λ j b.
     let m = c.args.machine.now in
+    let n = c.answer.new.machine in
     let e = c.in_ok-answer-in-None.ensures in
-    let t = c.in-None.ensures.goal in
-    does_answer g.B.Base.rest g.B.Base.may_visit g.B.Base.looked_at g.B.Base.ahead _ (setting c.args.host.now m j) j m c.answer.new.machine c.requires.going
-    c.in-None.ensures.none (ap said (ap (λ (k : Machine _). k.terms) e.same ∙ t)) (ap (λ (k : Machine _). k.mode) e.same) (ap (λ (k : Machine _). k.steps) e.same) (ap (λ (k : Machine _). k.front) e.same)
-    (ap (λ (k : Machine _). k.fronts.items) e.same) (ap (λ (k : Machine _). k.tally) e.same)
-    (e.events ∙ ap (λ (u : Terms _). m.events.items ++ Answer (numbered (substituted (said u).bindings (said u).shown)) (has_calls (said u).stack) ∷ []) t) (c.requires.ready.each j b)
+    let t = c.in-None.ensures.next in
+    does_answer g.B.Base.rest g.B.Base.may_visit g.B.Base.looked_at g.B.Base.ahead _ (setting c.args.host.now m j) j m n c.requires.going c.in-None.ensures.none
+    (e.same ∙ ap (λ (u : Terms _). let k : Machine _ = record m { mode = IsFailing; terms = u; events = n.events } in k) (sym e.terms)) (ap said (e.terms ∙ t))
+    (e.events ∙ ap (λ (u : Terms _). m.events.items ++ Answer (numbered (substituted (said u).bindings (said u).shown)) (is_any_open (said u).stack) ∷ []) t) (c.requires.ready.each j b)
 
-pub returns-in_ok-end-in-Some : goal.returns-in_ok-end-in-Some
-returns-in_ok-end-in-Some g c =
+pub returns-in-Some-Do-clause-moves : goal.returns-in-Some-Do-clause-moves
+returns-in-Some-Do-clause-moves g c =
     let m = c.args.machine.now in
-    let mid = record m { terms = c.take_goal.new.terms } in
-    let t = built mid.terms c.in-Some.goal in
-    let e = c.in_ok-end-in-Some.ensures in
-    let shown = ap (λ (u : Said _). u.shown) c.in-Some.ensures.same in
-    record {
-      seen = e.seen;
-      becomes = e.becomes;
-      kept = e.kept;
-      left = left_through c.args.host.now.budget (g.B.Base.view c.perform.new.base).seen m mid c.perform.new.machine shown e.left;
-      moves = λ j b.
-          let x = setting c.args.host.now m j in
-          let same = same_setting c.args.host.now m mid j shown in
-          does_next_so g.B.Base.rest g.B.Base.may_visit g.B.Base.looked_at g.B.Base.ahead _ x m mid c.perform.new.machine t c.in_ok-end-in-Some.end c.requires.going c.in-Some.ensures.none c.in-Some.ensures.same refl
-          (subst (λ (y : Setting). Does g.B.Base.rest g.B.Base.may_visit g.B.Base.looked_at g.B.Base.ahead (g.B.Base.view c.perform.new.base).causes (performs_goal y t) y mid c.perform.new.machine c.in_ok-end-in-Some.end) same (e.moves j b));
-    }
+    let t = c.take_next.new.terms in
+    let mid : Machine _ = record m { terms = t } in
+    let n = c.do_goal.new.machine in
+    let w = built t c.in-Some-Do.goal in
+    let some = subst (λ (k : Waiting). (said m.terms).goals ≡ next_now t k ∷ (said t).goals) c.in-Some-Do.field-0-is c.in-Some-Do.ensures.none in
+    let same = c.in-Some-Do.ensures.same in
+    if_ok c.do_goal.result _ _ c.do_goal.ensures.moves
+    (λ o h j b.
+    let x = setting c.args.host.now m j in
+    does_next g.B.Base.rest g.B.Base.may_visit g.B.Base.looked_at g.B.Base.ahead (g.B.Base.view c.do_goal.new.base).causes x m t (Do w c.in-Some-Do.cut) (performs_goal x w c.in-Some-Do.cut) c.requires.going some same (λ s gs. refl) n o
+    (subst (λ (y : Setting). Does g.B.Base.rest g.B.Base.may_visit g.B.Base.looked_at g.B.Base.ahead (g.B.Base.view c.do_goal.new.base).causes (performs_goal y w c.in-Some-Do.cut) y mid n o)
+    (same_setting c.args.host.now m mid j (ap (λ (u : Said _). u.shown) same)) (h j b)))
+
+pub returns-in-Some-ConditionEnd-clause-moves : goal.returns-in-Some-ConditionEnd-clause-moves
+returns-in-Some-ConditionEnd-clause-moves g c = λ j b.
+    let m = c.args.machine.now in
+    let t = c.take_next.new.terms in
+    let h = c.in-Some-ConditionEnd.height in
+    let some = subst (λ (k : Waiting). (said m.terms).goals ≡ next_now t k ∷ (said t).goals) c.in-Some-ConditionEnd.field-0-is c.in-Some-ConditionEnd.ensures.none in
+    goes_next g.B.Base.rest g.B.Base.may_visit g.B.Base.looked_at g.B.Base.ahead _ (setting c.args.host.now m j) m t (ConditionEnd h) (λ s. Goes (cut_back h s)) c.requires.going some c.in-Some-ConditionEnd.ensures.same
+    (λ s gs. refl) j c.cut_stack.new.machine (c.cut_stack.ensures.goes j b)
+
+pub returns-in-Some-NotEnd-clause-moves : goal.returns-in-Some-NotEnd-clause-moves
+returns-in-Some-NotEnd-clause-moves g c = λ j b.
+    let m = c.args.machine.now in
+    let t = c.take_next.new.terms in
+    let h = c.in-Some-NotEnd.height in
+    let some = subst (λ (k : Waiting). (said m.terms).goals ≡ next_now t k ∷ (said t).goals) c.in-Some-NotEnd.field-0-is c.in-Some-NotEnd.ensures.none in
+    goes_next g.B.Base.rest g.B.Base.may_visit g.B.Base.looked_at g.B.Base.ahead _ (setting c.args.host.now m j) m t (NotEnd h) (λ s. fails (cut_back h s)) c.requires.going some c.in-Some-NotEnd.ensures.same
+    (λ s gs. refl) j c.end_not.new.machine (c.end_not.ensures.goes j b)

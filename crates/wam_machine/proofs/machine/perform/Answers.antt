@@ -1,45 +1,67 @@
-use Rattle.std.proofs.Common.{[]}
+use Rattle.std.proofs.Common.{rules, length, ◌+◌, [], refl, sym, ap, ◌∙◌, subst, Some}
+use Rattle.wam_machine.specs.Control as spec
+use Rattle.wam_machine.specs.Control.{control_of}
+use Rattle.wam_machine.specs.Goals.{control_in}
 use Rattle.wam_machine.specs.Terms.{built}
-use Rattle.wam_machine.specs.View.{setting}
+use Rattle.wam_machine.specs.Machine.{performing}
+use Rattle.wam_machine.specs.View.{setting, calls, AreKept}
+use Rattle.wam_machine.specs.declared.state.Machine.{Machine}
+use Rattle.wam_machine.specs.declared.control.Control.{Control}
 use Rattle.wam_machine.proofs.Begins.{looks_refl}
-use Rattle.wam_machine.proofs.Performed.{is_true, is_equal, is_user, does_true, does_equal, left_equal, does_user}
+use Rattle.wam_machine.proofs.Going.{left_through}
+use Rattle.wam_machine.proofs.Performed.{held_step, takes_step, performed, is_spent}
+use Rattle.wam_machine.proofs.Done.{acts_goes, acts_left, acts_kept}
 use Rattle.wam_machine.proofs.machine.perform.Goals as goal
 
-pub returns-in_err-equate-in-Equal-clause-seen : goal.returns-in_err-equate-in-Equal-clause-seen
-returns-in_err-equate-in-Equal-clause-seen g c = looks_refl _ c.requires.ready.sound
+pub returns-then-machine-host-clause-seen : goal.returns-then-machine-host-clause-seen
+returns-then-machine-host-clause-seen g c = looks_refl _ c.requires.ready.sound
 
-pub returns-in-True-clause-seen : goal.returns-in-True-clause-seen
-returns-in-True-clause-seen g c = looks_refl _ c.requires.ready.sound
-
-pub returns-in-True-clause-moves : goal.returns-in-True-clause-moves
-returns-in-True-clause-moves g c = λ j b.
+pub returns-then-machine-host-clause-moves : goal.returns-then-machine-host-clause-moves
+returns-then-machine-host-clause-moves g c = λ j b.
     let m = c.args.machine.now in
-    let t = built m.terms c.args.goal in
-    does_true g.B.Base.rest g.B.Base.may_visit g.B.Base.looked_at g.B.Base.ahead _ (setting c.args.host.now m j) j m t
-    (is_true m.terms t c.args.control c.requires.control c.in-True.is) c.if-machine-host.false (c.requires.ready.each j b)
+    is_spent g.B.Base.rest g.B.Base.may_visit g.B.Base.looked_at g.B.Base.ahead [] (setting c.args.host.now m j) m (built m.terms c.args.goal) c.args.cut (control_in (built m.terms) c.args.control)
+    c.requires.control.is (takes_step (built m.terms) c.args.control c.requires.simple) c.if-machine-host.true
 
-pub returns-in_ok-equate-in-Equal-clause-seen : goal.returns-in_ok-equate-in-Equal-clause-seen
-returns-in_ok-equate-in-Equal-clause-seen g c = looks_refl _ c.requires.ready.sound
+pub returns-in_err-construct-in_default : goal.returns-in_err-construct-in_default
+returns-in_err-construct-in_default g c = record {
+  seen = looks_refl _ c.requires.ready.sound;
+  becomes = g.met.B.Base.becomes_itself _;
+  kept = subst (AreKept (g.B.Base.serves c.args.base.now) g.B.Base.group (g.B.Base.out c.args.base.now)) (sym c.in_err-construct-in_default.ensures.err) c.requires.ready.kept;
+  left = search rules;
+  moves = search rules;
+}
 
-pub returns-in_ok-equate-in-Equal-clause-left : goal.returns-in_ok-equate-in-Equal-clause-left
-returns-in_ok-equate-in-Equal-clause-left g c =
+pub returns-in-Cut-clause-moves : goal.returns-in-Cut-clause-moves
+returns-in-Cut-clause-moves g c = λ j b.
     let m = c.args.machine.now in
-    let e = c.in_ok-equate-in-Equal.ensures in
-    left_equal g.B.Base.rest g.B.Base.may_visit g.B.Base.looked_at g.B.Base.ahead [] c.args.host.now.budget (g.B.Base.view c.args.base.now).seen m c.equate.new.machine
-    (built m.terms c.in-Equal.left) (built m.terms c.in-Equal.right) e.equated.0 c.if-machine-host.false c.requires.ready.held e.terms e.same e.equated.1.1
-
-pub returns-in_ok-equate-in-Equal-clause-moves : goal.returns-in_ok-equate-in-Equal-clause-moves
-returns-in_ok-equate-in-Equal-clause-moves g c = λ j b.
-    let m = c.args.machine.now in
-    let t = built m.terms c.args.goal in
-    let e = c.in_ok-equate-in-Equal.ensures in
-    does_equal g.B.Base.rest g.B.Base.may_visit g.B.Base.looked_at g.B.Base.ahead _ (setting c.args.host.now m j) j m c.equate.new.machine t
-    (built m.terms c.in-Equal.left) (built m.terms c.in-Equal.right) e.equated.0
-    (is_equal m.terms t c.args.control c.in-Equal.left c.in-Equal.right c.requires.control c.in-Equal.is) c.if-machine-host.false e.same e.equated.1.0 e.equated.1.1 (c.requires.ready.each j b)
+    let is = c.requires.control.is ∙ ap (λ (d : Control). Some (control_in (built m.terms) d)) c.in-Cut.is in
+    performed g.B.Base.rest g.B.Base.may_visit g.B.Base.looked_at g.B.Base.ahead _ (setting c.args.host.now m j) m (built m.terms c.args.goal) c.args.cut spec.Cut
+    is tt j c.cut_stack.new.machine c.if-machine-host.false (c.cut_stack.ensures.goes j b)
 
 pub returns-in_ok-call-in-User-clause-moves : goal.returns-in_ok-call-in-User-clause-moves
 returns-in_ok-call-in-User-clause-moves g c = λ j b.
     let m = c.args.machine.now in
+    let is = c.requires.control.is ∙ ap (λ (d : Control). Some (control_in (built m.terms) d)) c.in-User.is in
+    performed g.B.Base.rest g.B.Base.may_visit g.B.Base.looked_at g.B.Base.ahead _ (setting c.args.host.now m j) m (built m.terms c.args.goal) c.args.cut (spec.User c.in-User.indicator)
+    is tt j c.call.new.machine c.if-machine-host.false (c.in_ok-call-in-User.ensures.goes j b)
+
+pub returns-in_ok-construct-in_default : goal.returns-in_ok-construct-in_default
+returns-in_ok-construct-in_default g c =
+    let m = c.args.machine.now in
+    let mid : Machine _ = record m { steps = m.steps + 1 } in
+    let n = c.construct.new.machine in
+    let d = control_in (built m.terms) c.args.control in
     let t = built m.terms c.args.goal in
-    does_user g.B.Base.rest g.B.Base.may_visit g.B.Base.looked_at g.B.Base.ahead _ (setting c.args.host.now m j) j m c.call.new.machine t c.in-User.indicator
-    (is_user m.terms t c.args.control c.in-User.indicator c.requires.control c.in-User.is) c.if-machine-host.false (c.in_ok-call-in-User.ensures.goes j b)
+    let acts = c.in_ok-construct-in_default.ensures.acts in
+    record {
+      seen = looks_refl _ c.requires.ready.sound;
+      becomes = g.met.B.Base.becomes_itself _;
+      kept = acts_kept (performing (setting c.args.host.now m []) t c.args.cut d) mid n (acts (setting c.args.host.now m []) t) (g.B.Base.serves c.args.base.now) g.B.Base.group (g.B.Base.out c.args.base.now) c.requires.ready.kept;
+      left = left_through c.args.host.now.budget (g.B.Base.view c.args.base.now).seen m mid n refl
+          (acts_left (performing (setting c.args.host.now m []) t c.args.cut d) mid n (acts (setting c.args.host.now m []) t) c.args.host.now.budget (g.B.Base.view c.args.base.now).seen
+          (held_step c.args.host.now.budget (g.B.Base.view c.args.base.now).seen m.steps m.front (length (calls m)) m.tally c.requires.ready.held c.if-machine-host.false));
+      moves = λ j b.
+          let x = setting c.args.host.now m j in
+          performed g.B.Base.rest g.B.Base.may_visit g.B.Base.looked_at g.B.Base.ahead _ x m t c.args.cut d c.requires.control.is (takes_step (built m.terms) c.args.control c.requires.simple) j n c.if-machine-host.false
+          (acts_goes (performing x t c.args.cut d) mid n (acts x t) g.B.Base.rest g.B.Base.may_visit g.B.Base.looked_at g.B.Base.ahead _ j (c.requires.ready.each j b));
+    }

@@ -1,36 +1,23 @@
-use Rattle.std.proofs.Common.{◌≡◌, ◌+◌, ◌∙◌, ◌≢◌, [], ◌∷◌, sym, subst, refl, length, true, List}
-use Rattle.std.specs.Prelude.{All}
-use Rattle.wam_machine.specs.Cursors.{AreNamed}
-use Rattle.wam_machine.specs.Terms.{Left, call_now}
-use Rattle.wam_machine.specs.View.{setting, calls, has_calls}
-use Rattle.wam_machine.specs.declared.state.Mode.TheVariants.{Going as IsGoing}
-use Rattle.wam_machine.proofs.Begins.{begins_before}
-use Rattle.wam_machine.proofs.Room.{has_room}
-use Rattle.wam_machine.proofs.Taken.{spent, taken}
+use Rattle.std.proofs.Common.{[]}
+use Rattle.wam_machine.specs.Machine.{move}
+use Rattle.wam_machine.specs.View.{setting}
+use Rattle.wam_machine.proofs.Done.{acts_goes, acts_left, acts_kept}
 use Rattle.wam_machine.proofs.machine.retry.Goals as goal
 
-some_calls : {C : Type 0} (cs : List (Left C)) → has_calls cs ≡ true → length cs ≢ 0
-some_calls [] h e = absurd cc
-some_calls (c ∷ cs) h e = absurd cc
-
-pub returns-then-machine-host-clause-moves : goal.returns-then-machine-host-clause-moves
-returns-then-machine-host-clause-moves g c = λ j b.
+pub returns-in-Mark-clause-kept : goal.returns-in-Mark-clause-kept
+returns-in-Mark-clause-kept g c =
     let m = c.args.machine.now in
-    spent g.B.Base.rest g.B.Base.may_visit g.B.Base.looked_at g.B.Base.ahead [] (setting c.args.host.now m j) m c.requires.failing c.if-machine-host.true
-    (some_calls (calls m) (sym c.any_left.ensures ∙ c.if-not-any_left.false))
+    let x = setting c.args.host.now m [] in
+    acts_kept (move x) m c.pass_mark.new.machine (c.pass_mark.ensures.acts x) (g.B.Base.serves c.args.base.now) g.B.Base.group (g.B.Base.out c.args.base.now) c.requires.ready.kept
 
-pub take-requires-clause-named : goal.take-requires-clause-named
-take-requires-clause-named g c = λ j b.
-    subst (All (AreNamed g.B.Base.rest g.B.Base.looked_at j)) c.in-Some.ensures.none (c.requires.ready.each j b).named
-
-pub take-requires-clause-room : goal.take-requires-clause-room
-take-requires-clause-room g c = has_room _ _ _ _ _ _ _ _ c.args.machine.now c.requires.ready c.requires.budget
-
-pub returns-in_ok-take-in-Some-clause-moves : goal.returns-in_ok-take-in-Some-clause-moves
-returns-in_ok-take-in-Some-clause-moves g c = λ j b.
+pub returns-in-Mark-clause-left : goal.returns-in-Mark-clause-left
+returns-in-Mark-clause-left g c =
     let m = c.args.machine.now in
-    let mid = record m { mode = IsGoing; steps = m.steps + 1; terms = c.go_back.new.terms } in
-    taken g.B.Base.rest g.B.Base.may_visit g.B.Base.looked_at g.B.Base.ahead _ (setting c.args.host.now m j) m mid c.take.new.machine (call_now c.go_back.new.terms c.in-Some.call)
-    c.requires.failing c.if-machine-host.false c.in-Some.ensures.none refl refl c.in-Some.ensures.fresh refl refl refl refl refl refl
-    (c.in_ok-take-in-Some.ensures.tried j b) c.in_ok-take-in-Some.ensures.counts
-    (c.requires.ready.each j (begins_before (g.B.Base.view c.args.base.now) (g.B.Base.view c.take.new.base) j c.in_ok-take-in-Some.ensures.seen.grows b))
+    let x = setting c.args.host.now m [] in
+    acts_left (move x) m c.pass_mark.new.machine (c.pass_mark.ensures.acts x) c.args.host.now.budget (g.B.Base.view c.args.base.now).seen c.requires.ready.held
+
+pub returns-in-Mark-clause-moves : goal.returns-in-Mark-clause-moves
+returns-in-Mark-clause-moves g c = λ j b.
+    let m = c.args.machine.now in
+    let x = setting c.args.host.now m j in
+    acts_goes (move x) m c.pass_mark.new.machine (c.pass_mark.ensures.acts x) g.B.Base.rest g.B.Base.may_visit g.B.Base.looked_at g.B.Base.ahead _ j (c.requires.ready.each j b)

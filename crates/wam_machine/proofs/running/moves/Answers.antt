@@ -7,8 +7,7 @@ use Rattle.wam_machine.specs.Machine.{Setting, move}
 use Rattle.wam_machine.specs.View.{setting, Does, IsLed}
 use Rattle.wam_machine.specs.declared.run.RunEnd.{RunEnd}
 use Rattle.wam_machine.proofs.Begins.{begins_before, looks_refl, looks_trans}
-use Rattle.wam_machine.proofs.Going.{same_setting}
-use Rattle.wam_machine.proofs.Led.{leads_on, led_at_first, leads_to_end}
+use Rattle.wam_machine.proofs.Led.{one_setting, leads_on, led_at_first, leads_to_end}
 use Rattle.wam_machine.proofs.Ready.{ready_at_first}
 use Rattle.wam_machine.proofs.running.moves.Goals as goal
 
@@ -30,7 +29,7 @@ returns-in-Some-2-clause-ended g c = λ j b made.
     let x = setting c.args.host.now c.args.machine.now j in
     let t : Tree = c.args.goal.now.term in
     let before = begins_before v w j c.in_ok-end.ensures.seen.grows b in
-    let moves = subst (λ (y : Setting). Does g.B.Base.rest g.B.Base.may_visit g.B.Base.looked_at g.B.Base.ahead w.causes (move y) y m c.advance.new.machine c.in_ok-end.field-0) (same_setting c.args.host.now c.args.machine.now m j c.loop.invariant.shown) (c.in_ok-end.ensures.moves j b) in
+    let moves = subst (λ (y : Setting). Does g.B.Base.rest g.B.Base.may_visit g.B.Base.looked_at g.B.Base.ahead w.causes (move y) y m c.advance.new.machine c.in_ok-end.field-0) (one_setting c.args.host.now c.args.machine.now m j c.loop.invariant.shown) (c.in_ok-end.ensures.moves j b) in
     let does = subst (λ (o : Option RunEnd). Does g.B.Base.rest g.B.Base.may_visit g.B.Base.looked_at g.B.Base.ahead w.causes (move x) x m c.advance.new.machine o) c.in-Some-2.is moves in
     let led = subst (λ cs. IsLed g.B.Base.rest g.B.Base.may_visit g.B.Base.looked_at g.B.Base.ahead cs x t m) (sym c.in_ok-end.ensures.seen.grows.causes) (c.loop.invariant.led j before) in
     leads_to_end g.B.Base.rest g.B.Base.may_visit g.B.Base.looked_at g.B.Base.ahead w.causes x t c.args.goal.now.shown m c.advance.new.machine c.in-Some-2.end made led does
@@ -45,7 +44,7 @@ loop-preserved g c =
     let goes = λ (j : Journal) (b : Begins w j).
     let x = setting c.args.host.now c.args.machine.now j in
     subst (λ (o : Option RunEnd). Does g.B.Base.rest g.B.Base.may_visit g.B.Base.looked_at g.B.Base.ahead w.causes (move x) x m c.advance.new.machine o) c.in_default.is
-    (subst (λ (y : Setting). Does g.B.Base.rest g.B.Base.may_visit g.B.Base.looked_at g.B.Base.ahead w.causes (move y) y m c.advance.new.machine c.in_ok-end.field-0) (same_setting c.args.host.now c.args.machine.now m j c.loop.invariant.shown) (c.in_ok-end.ensures.moves j b))
+    (subst (λ (y : Setting). Does g.B.Base.rest g.B.Base.may_visit g.B.Base.looked_at g.B.Base.ahead w.causes (move y) y m c.advance.new.machine c.in_ok-end.field-0) (one_setting c.args.host.now c.args.machine.now m j c.loop.invariant.shown) (c.in_ok-end.ensures.moves j b))
     in
     record {
       seen = looks_trans _ _ _ c.loop.invariant.seen c.in_ok-end.ensures.seen;
@@ -67,3 +66,6 @@ loop-preserved g c =
 
 pub returns-in_err-end-clause-seen : goal.returns-in_err-end-clause-seen
 returns-in_err-end-clause-seen g c = looks_trans _ _ _ c.loop.invariant.seen c.in_err-end.ensures.seen
+
+pub returns-in-Some-2-clause-seen : goal.returns-in-Some-2-clause-seen
+returns-in-Some-2-clause-seen g c = looks_trans _ _ _ c.loop.invariant.seen c.in_ok-end.ensures.seen

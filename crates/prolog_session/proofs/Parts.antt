@@ -1,0 +1,36 @@
+-- What a load needs of the parts of a text.
+use Rattle.std.proofs.Common.{◌≡◌, ℕ, List, [], ◌∷◌, ◌++◌, Option, Some, None, refl, sym, ◌∙◌, ap, arith, get_or}
+use Rattle.std.specs.Prelude.{IfOk, IfSome, IsTrue, Result, Ok, Err, codes, pos}
+use Rattle.prolog_terms.specs.Tree.{Tree, HasArities}
+use Rattle.prolog_terms.specs.Flat.{nodes, IsPrefixOrder, tree-nodes, tree}
+use Rattle.prolog_terms.specs.Faults.{indicator_tree}
+use Rattle.prolog_terms.specs.Indicators.{indicator_of}
+use Rattle.prolog_terms.specs.Substitutions.{occurs}
+use Rattle.prolog_terms.specs.declared.entry.Indicator.{Indicator}
+use Rattle.prolog_terms.specs.declared.node.Node.{Node}
+use Rattle.prolog_terms.specs.declared.shown.Shown.{Shown}
+use Rattle.prolog_clauses.specs.Directives.{IsGoalOf, IsReady, directive_of}
+use Rattle.prolog_clauses.specs.declared.directive.Directive.{Directive}
+use Rattle.prolog_clauses.specs.declared.directive.Directive.TheVariants.{Operators as ForOperators, Nothing as ForNothing, Kept as ForTheEnd, Goal as ToRun}
+use Rattle.prolog_reader.specs.Texts.{Reading, HasItsVariables}
+use Rattle.wam_machine.specs.Runs.{AreShown}
+use Rattle.prolog_session.specs.Load.{part_of_directive, part_of_term, asked, IsReadyPart}
+use Rattle.prolog_session.proofs.Loads.{ready-term}
+
+-- the shown variables of a directive's goal stand in it
+goal-shown : (line : ℕ) (r : Reading) (g : Tree) → HasItsVariables r → IsGoalOf r.term g → AreShown (asked line r.shown g).goal
+goal-shown line r g h k = λ n d lt. k.variables (get_or r.shown n d).var (h.stand n d lt)
+
+pub ready-directive : (line : ℕ) (r : Reading) (d : Directive) → HasItsVariables r → IsReady r.term d → IsReadyPart (part_of_directive line r.shown d)
+ready-directive line r (ForOperators d) h k = k
+ready-directive line r ForNothing h k = tt
+ready-directive line r (ForTheEnd g) h k = goal-shown line r g h k
+ready-directive line r (ToRun g) h k = goal-shown line r g h k
+
+-- ---- the term of an indicator
+
+pub indicator_prefix : (i : Indicator) (xs : List Node) → xs ≡ nodes (indicator_tree i) → IsPrefixOrder xs
+indicator_prefix i xs e = (indicator_tree i, ((omega arith, omega arith, (tt, (tt, tt))), sym e))
+
+pub indicator_is : (i : Indicator) (xs : List Node) (t : Tree) → xs ≡ nodes (indicator_tree i) → nodes t ≡ xs → t ≡ indicator_tree i
+indicator_is i xs t e made = sym (tree-nodes t) ∙ ap tree (made ∙ e) ∙ tree-nodes (indicator_tree i)

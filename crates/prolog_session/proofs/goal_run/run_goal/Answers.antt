@@ -1,0 +1,20 @@
+use Rattle.std.proofs.Common.{◌≢◌, ◌∙◌, sym}
+use Rattle.std.proofs.lemmas.Bool.{true≢false}
+use Rattle.wam_machine.specs.declared.run.RunEnd.TheVariants.{Want}
+use Rattle.prolog_session.proofs.Ran.{out_before, base_after, run_by}
+use Rattle.prolog_session.proofs.goal_run.run_goal.Goals as goal
+
+pub solve-run-requires-clause-out : goal.solve-run-requires-clause-out
+solve-run-requires-clause-out g c = out_before c.args.base c.in-Ok.engine.base c.requires.out c.in-Ok.ensures.ok
+
+pub returns-clause-base : goal.returns-clause-base
+returns-clause-base g c =
+    let s = c.solve-run.ensures in
+    c.into_base.ensures ∙ base_after c.args.base c.in-Ok.engine.base c.solve-run.new.self.base c.requires.out c.in-Ok.ensures.ok s.becomes s.seen s.out
+
+pub returns-clause-run : goal.returns-clause-run
+returns-clause-run g c =
+    let s = c.solve-run.ensures in
+    let after = base_after c.args.base c.in-Ok.engine.base c.solve-run.new.self.base c.requires.out c.in-Ok.ensures.ok s.becomes s.seen s.out in
+    let ended : c.solve-run.result.end ≢ Want = λ h. true≢false (sym (c.wants.ensures.1 h) ∙ c.if-wants.false) in
+    run_by c.args.base c.in-Ok.engine.base c.solve-run.new.self.base _ _ _ _ c.in-Ok.ensures.ok after s.run ended

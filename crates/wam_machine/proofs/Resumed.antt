@@ -1,0 +1,186 @@
+-- The newest moment is gone back to, and the machine goes on from there.
+use Rattle.std.proofs.Common.{◌≡◌, ℕ, ◌+◌, ◌*◌, ◌≤◌, List, [], ◌∷◌, ◌++◌, length, Bool, true, refl, sym, ap, ◌∙◌, arith, subst, append-nil}
+use Rattle.std.specs.Prelude.{◌≢◌, All}
+use Rattle.std.specs.List.{cons_option}
+use Rattle.std.proofs.lemmas.List.{length-append}
+use Rattle.journal_base.specs.Calls.{Goal}
+use Rattle.journal_base.specs.Journal.{Journal}
+use Rattle.journal_base.specs.Looks.{most_raised}
+use Rattle.journal_base.specs.declared.tally.Tally.{Tally}
+use Rattle.wam_machine.specs.Machine as spec
+use Rattle.wam_machine.specs.Machine.{Next, State, Setting, Outcome, Goes, Ends, Look, move, back_to}
+use Rattle.wam_machine.specs.Cursors.{AreNamed}
+use Rattle.wam_machine.specs.Terms.{Left, Turn, OfCall, OfRight, OfRepeat, OfNot, Saved, Said, AreTerms, HasNewest, said, call_in, calls_in, is_open}
+use Rattle.wam_machine.specs.View.{alternative_of, choice_of, stack_of, mode_of, state_from, state_of, resuming, calls, turn_calls, all_visits, aheads, Acts, GoesOn, ComesToEnd, IsHeld, IsHeldIn, Tries, Resumes, KeepsCounts}
+use Rattle.wam_machine.specs.declared.run.RunEnd.TheVariants.{Spent}
+use Rattle.wam_machine.specs.declared.state.Machine.{Machine}
+use Rattle.wam_machine.specs.declared.state.Mode.TheVariants.{Going as IsGoing, Failing as IsFailing}
+use Rattle.wam_machine.specs.declared.terms.Terms.{Terms}
+use Rattle.wam_machine.proofs.Acted.{stack-push, calls-push, calls-beside}
+use Rattle.wam_machine.proofs.Moves.{open-is, taken-steps, stepping-on, stepping-spent, fails_back}
+
+-- ---- the calls of a turn
+
+one-turn : {C : Type 0} (t : Turn C) → cons_option (call_in t) [] ≡ turn_calls t
+one-turn (OfCall c) = refl
+one-turn (OfRight g h) = refl
+one-turn OfRepeat = refl
+one-turn OfNot = refl
+
+pub calls-turn : {C : Type 0} (ss : List (Saved C)) (s : Saved C) → calls_in (ss ++ s ∷ []) ≡ calls_in ss ++ turn_calls s.turn
+calls-turn ss s = calls-push ss s ∙ ap (λ cs. calls_in ss ++ cs) (one-turn s.turn)
+
+-- ---- going on
+
+module _ {C : Type 0} (rest : C → Goal → Journal → List ℕ) (may : C → Goal → Journal → ℕ) (at : C → ℕ) (ahead : C → ℕ) (j : Journal) where
+  pub resumes_call : (c : Left C) (old new : Machine C) → Tries rest may at ahead j c old new → Resumes rest may at ahead j (OfCall c) old new
+  resumes_call c old new t = record { given = t.given; resumed = t.tried; most = t.most; least = t.least; named = t.named }
+
+  pub resumes_acts : (turn : Turn C) (old new : Machine C) → turn_calls turn ≡ [] → Acts (resuming (alternative_of rest at j turn)) old new → All (AreNamed rest at j) (calls old ++ turn_calls turn)
+      → Resumes rest may at ahead j turn old new
+  resumes_acts turn old new none a named =
+      let e : calls old ++ turn_calls turn ≡ calls old = ap (λ cs. calls old ++ cs) none ∙ append-nil (calls old) in
+      let visits : new.tally.visits ≡ old.tally.visits = ap (λ (m : Machine C). m.tally.visits) a.same in
+      let now : all_visits may at j (calls new) ≡ all_visits may at j (calls old) = ap (all_visits may at j) a.calls_are in
+      let before : all_visits may at j (calls old ++ turn_calls turn) ≡ all_visits may at j (calls old) = ap (all_visits may at j) e in
+      let now_ahead : aheads ahead (calls new) ≡ aheads ahead (calls old) = ap (aheads ahead) a.calls_are in
+      let before_ahead : aheads ahead (calls old ++ turn_calls turn) ≡ aheads ahead (calls old) = ap (aheads ahead) e in
+      record {
+        given = 0;
+        resumed = λ looks tried fronts. a.goes rest at j looks tried fronts ∙ ap (λ (n : ℕ). Goes (state_of rest at j new looks n fronts)) (plus tried);
+        most = omega arith;
+        least = omega arith;
+        named = subst (All (AreNamed rest at j)) (e ∙ sym a.calls_are) named;
+      }
+    where
+      plus : (n : ℕ) → n ≡ n + 0
+      plus n = omega arith
+
+pub acts_still : {C : Type 0} (m : Machine C) → AreTerms m.terms → Acts (λ s. Goes s) m m
+acts_still m terms = record { terms = terms; same = refl; shown = refl; calls_are = refl; goes = λ rest at j looks tried fronts. refl }
+
+-- ---- back at a moment
+
+-- the moment, as it is said where it was gone back to
+abbrev pub moment : {C : Type 0} → Turn C → Said C → Saved C
+moment turn t = record { turn = turn; goals = t.goals; bindings = t.bindings }
+
+module _ {C : Type 0} (x : Setting) (m : Machine C) (failing : m.mode ≡ IsFailing) where
+  module _ (rest : C → Goal → Journal → List ℕ) (at : C → ℕ) (j : Journal) (looks : List Look) (tried : ℕ) (fronts : List ℕ) where
+    came_back : (ss : List (Saved C)) (s : Saved C) → (said m.terms).stack ≡ ss ++ s ∷ []
+        → move x (state_of rest at j m looks tried fronts) ≡ spec.taken x (back_to (state_of rest at j m looks tried fronts) (choice_of rest at j s) (stack_of rest at j ss)) (alternative_of rest at j s.turn)
+    came_back ss s is =
+        fails_back x (state_of rest at j m looks tried fronts) (choice_of rest at j s) (stack_of rest at j ss) (ap mode_of failing) (ap (stack_of rest at j) is ∙ stack-push rest at j ss s)
+
+  -- a mark is passed
+  pub passed : (t : Terms C) → AreTerms t → (said m.terms).stack ≡ (said t).stack ++ moment OfNot (said t) ∷ [] → (said t).fresh ≡ (said m.terms).fresh → (said t).shown ≡ (said m.terms).shown
+      → Acts (move x) m (record m { mode = IsGoing; terms = t })
+  passed t terms is fresh shown = record {
+    terms = terms;
+    same = refl;
+    shown = shown;
+    calls_are = sym (ap calls_in is ∙ calls-beside (said t).stack (moment OfNot (said t)) refl);
+    goes = λ rest at j looks tried fronts.
+        came_back rest at j looks tried fronts (said t).stack (moment OfNot (said t)) is
+        ∙ ap (λ (f : ℕ). Goes (state_from (said t).goals (stack_of rest at j (said t).stack) (said t).bindings f spec.Going m.steps m.events.items m.front looks tried fronts)) (sym fresh);
+  }
+
+  -- no step is left
+  pub retake_spent : (rest : C → Goal → Journal → List ℕ) (at : C → ℕ) → HasNewest (said m.terms).stack true → m.steps ≡ x.budget → ComesToEnd rest at (move x) x m m (Spent m.steps)
+  retake_spent rest at (ss, (s, (is, left))) d = record {
+    fronts_are = refl;
+    tally_is = refl;
+    ends = λ made looks tried.
+        let back = back_to (state_of rest at x.journal m looks tried []) (choice_of rest at x.journal s) (stack_of rest at x.journal ss) in
+        let a = alternative_of rest at x.journal s.turn in
+        came_back rest at x.journal looks tried [] ss s is
+        ∙ taken-steps x back a (open-is rest at x.journal s.turn ∙ left)
+        ∙ stepping-spent x back (resuming a) made refl d;
+  }
+
+  -- an alternative is taken, by a step
+  module _ (t : Terms C) (turn : Turn C) (is : (said m.terms).stack ≡ (said t).stack ++ moment turn (said t) ∷ []) (fresh : (said t).fresh ≡ (said m.terms).fresh) (left : is_open turn ≡ true) (d : m.steps ≢ x.budget) where
+    retake_leads : (rest : C → Goal → Journal → List ℕ) (at : C → ℕ) (j : Journal) (looks : List Look) (tried : ℕ) (fronts : List ℕ)
+        → move x (state_of rest at j m looks tried fronts) ≡ resuming (alternative_of rest at j turn) (state_of rest at j (record m { mode = IsGoing; steps = m.steps + 1; terms = t }) looks tried fronts)
+    retake_leads rest at j looks tried fronts =
+        let back = back_to (state_of rest at j m looks tried fronts) (choice_of rest at j (moment turn (said t))) (stack_of rest at j (said t).stack) in
+        let a = alternative_of rest at j turn in
+        came_back rest at j looks tried fronts (said t).stack (moment turn (said t)) is
+        ∙ taken-steps x back a (open-is rest at j turn ∙ left)
+        ∙ stepping-on x back (resuming a) d
+        ∙ ap (λ (f : ℕ). resuming a (state_from (said t).goals (stack_of rest at j (said t).stack) (said t).bindings f spec.Going (m.steps + 1) m.events.items m.front looks tried fronts)) (sym fresh)
+
+    pub retaken : (rest : C → Goal → Journal → List ℕ) (may : C → Goal → Journal → ℕ) (at : C → ℕ) (ahead : C → ℕ) (causes : List ℕ) (j : Journal) (new : Machine C)
+        → Resumes rest may at ahead j turn (record m { mode = IsGoing; steps = m.steps + 1; terms = t }) new → KeepsCounts (record m { mode = IsGoing; steps = m.steps + 1; terms = t }) new
+        → IsHeldIn rest may at j m.tally (calls m) → GoesOn rest may at ahead causes (move x) j m new
+    retaken rest may at ahead causes j new r counts held =
+        let same : new.tally ≡ record m.tally { visits = new.tally.visits } = counts.tally in
+        let looks : new.tally.looks ≡ m.tally.looks = ap (λ (u : Tally). u.looks) same in
+        let were : calls m ≡ calls_in (said t).stack ++ turn_calls turn = ap calls_in is ∙ calls-turn (said t).stack (moment turn (said t)) in
+        let all : all_visits may at j (calls m) ≡ all_visits may at j (calls_in (said t).stack ++ turn_calls turn) = ap (all_visits may at j) were in
+        let aheads_are : aheads ahead (calls m) ≡ aheads ahead (calls_in (said t).stack ++ turn_calls turn) = ap (aheads ahead) were in
+        record {
+          added = [];
+          looked = [];
+          hows = [];
+          given = r.given;
+          fronts_are = counts.fronts ∙ sym (append-nil m.fronts.items);
+          goes = λ ls tried fs.
+              retake_leads rest at j ls tried fs
+              ∙ r.resumed ls tried fs
+              ∙ ap (λ l. Goes (state_of rest at j new l (tried + r.given) fs)) (sym (append-nil ls));
+          works = record {
+            fair = tt;
+            looks = omega (arith, looks);
+            scans = ap (λ (u : Tally). u.scans) same ∙ plus m.tally.scans;
+            kept = ap (λ (u : Tally). u.kept) same ∙ plus m.tally.kept;
+            wants = ap (λ (u : Tally). u.wants) same ∙ plus m.tally.wants;
+            most = omega (arith, r.most, all);
+            least = omega (arith, r.least, aheads_are);
+            unbuilt = λ _. (ap (λ (u : Tally). u.built) same, ap (λ (u : Tally). u.indexes) same);
+          };
+          held = record {
+            named = r.named;
+            raised = subst (λ n. new.tally.visits + all_visits may at j (calls new) ≤ n * most_raised) (sym looks) (omega (arith, r.most, all, held.raised));
+          };
+        }
+      where
+        plus : (n : ℕ) → n ≡ n + 0
+        plus n = omega arith
+
+-- ---- counts
+
+pub held_retaken : {C : Type 0} (budget before after : ℕ) (m n : Machine C) (v : ℕ) → n.steps ≡ m.steps + 1 → n.front ≡ m.front → n.tally ≡ record m.tally { visits = v } → length (calls n) ≤ length (calls m) → before ≤ after → m.steps ≢ budget
+    → IsHeld budget before m.steps m.front (length (calls m)) m.tally → IsHeld budget after n.steps n.front (length (calls n)) n.tally
+held_retaken budget before after m n v steps front tally few grows other h =
+    rw (steps, front, tally) (record {
+      within = omega (arith, h.within, other);
+      few = omega (arith, h.few, few);
+      reached = omega (arith, h.reached, grows);
+      looks = omega (arith, h.looks);
+      scans = h.scans;
+      kept = h.kept;
+      wants = h.wants;
+      built = h.built;
+      indexes = h.indexes;
+    })
+
+pub fewer : {C : Type 0} (cs us vs : List (Left C)) (n : ℕ) → cs ≡ us ++ vs → n ≤ length us + length vs → n ≤ length cs
+fewer cs us vs n e l =
+    let a : length cs ≡ length (us ++ vs) = ap length e in
+    let b : length (us ++ vs) ≡ length us + length vs = length-append us vs in
+    omega arith
+
+-- ---- the newest moment, said in two ways
+
+abbrev lastly : {A : Type 0} → A → List A → A
+lastly d [] = d
+lastly d (x ∷ xs) = lastly x xs
+
+lastly-is : {A : Type 0} (d : A) (xs : List A) (y : A) → lastly d (xs ++ y ∷ []) ≡ y
+lastly-is d [] y = refl
+lastly-is d (x ∷ xs) y = lastly-is x xs y
+
+pub newest-open : {C : Type 0} (stack ss : List (Saved C)) (s : Saved C) (b : Bool) → HasNewest stack b → stack ≡ ss ++ s ∷ [] → is_open s.turn ≡ b
+newest-open stack ss s b (us, (u, (is, left))) e =
+    ap (λ (r : Saved _). is_open r.turn) (sym (lastly-is s ss s) ∙ ap (lastly s) (sym e ∙ is) ∙ lastly-is s us u) ∙ left

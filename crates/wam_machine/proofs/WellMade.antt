@@ -1,0 +1,310 @@
+-- Over clauses with bodies, each goal is a body at its turn.
+use Rattle.std.proofs.Common.{◌≡◌, ℕ, zero, suc, ◌+◌, ◌-◌, List, [], ◌∷◌, ◌++◌, Bool, true, false, length, take, map, refl, subst}
+use Rattle.std.specs.Prelude.{All, IsTrue, IfSome, IsSome, Option, Some, None, ◌==◌, ◌&&◌, ◌||◌, if◌then◌else◌, nat_le, nat_lt, codes, filter_map, slice_get, option_and_then}
+use Rattle.std.specs.List.{cons_option}
+use Rattle.std.proofs.lemmas.List.Elements.{All-nil, All-cons, All-head, All-tail, All-append, All-take, All-drop}
+use Rattle.prolog_terms.specs.Tree.{Tree, Trees, variable, integer, atom, compound, none, more, count}
+use Rattle.prolog_terms.specs.Substitutions.{substituted, renamed}
+use Rattle.prolog_terms.specs.Clauses.{is_named, is_connective, is_body, body_of, call_term}
+use Rattle.prolog_terms.specs.Faults.{two}
+use Rattle.prolog_terms.specs.declared.entry.Clause.{Clause}
+use Rattle.prolog_terms.specs.declared.entry.Entry.{Entry}
+use Rattle.prolog_terms.specs.declared.entry.Indicator.{Indicator}
+use Rattle.prolog_terms.specs.declared.fault.Fault.TheVariants.{Representation}
+use Rattle.journal_base.specs.Journal.{Journal, number_of, clause_named, added}
+use Rattle.journal_base.specs.Candidates.{candidates}
+use Rattle.journal_base.specs.Keys.{keys}
+use Rattle.term_unifier.specs.Unifier.{unifier}
+use Rattle.wam_machine.specs.Control.{Control, True, Fail, Cut, Repeat, Both, Either, IfElse, If, Not, Call, Once, Equal, User, control_of, control_with_none, control_with_one, control_of_either, control_with_two, control_with_more, or_call, first_body, with_added, is_true_atom}
+use Rattle.wam_machine.specs.declared.run.RunEnd.{RunEnd}
+use Rattle.wam_machine.specs.declared.run.RunEnd.TheVariants.{Exhausted, Ball, Spent}
+use Rattle.wam_machine.specs.Machine.{Next, Do, ConditionEnd, NotEnd, Alternative, Clauses, Right, Again, NotMark, Choice, Mode, Going, Failing, Raising, State, Setting, Outcome, Goes, Ends, Unfit, no_more, made_all, over, stepping, onwards, pushed, height, next_under, solving, numbering, body_from, entering, leaving, trying, candidate_clauses, looked, called, calling, call_with, raises, running, calling_added, denying, repeating, performing, doing, going, back_to, taken, failing, raising, move, beginning, CanBeDone, HasBody, CanBeTaken, CanGoBack, IsWellMade, HasBodies, GoalsAreBodies}
+use Rattle.prolog_terms.proofs.Converted.{both_true, first_true, second_true, is_converted}
+
+-- ---- bodies
+
+-- the parts of a connective, where it may be one
+either_parts : (c p q r w : Bool) → (p ≡ true → r ≡ true) → (q ≡ true → w ≡ true) → (if c then p && q else true) ≡ true → (if c then r && w else true) ≡ true
+either_parts false p q r w f g h = refl
+either_parts true p q r w f g h = both_true r w (f (first_true p q h)) (g (second_true p q h))
+
+pub is_body-substituted : (s : ℕ → Tree) (t : Tree) → is_body t ≡ true → is_body (substituted s t) ≡ true
+is_body-substituted s (variable n) h = absurd cc
+is_body-substituted s (integer z) h = absurd cc
+is_body-substituted s (atom a) h = refl
+is_body-substituted s (compound f none) h = refl
+is_body-substituted s (compound f (more a none)) h = refl
+is_body-substituted s (compound f (more a (more b none))) h =
+    either_parts (is_connective f) (is_body a) (is_body b) (is_body (substituted s a)) (is_body (substituted s b)) (is_body-substituted s a) (is_body-substituted s b) h
+is_body-substituted s (compound f (more a (more b (more c ts)))) h = refl
+
+-- the goals of which a goal is made are bodies
+abbrev pub HasParts : Control → Type 0
+HasParts True = Unit {0}
+HasParts Fail = Unit {0}
+HasParts Cut = Unit {0}
+HasParts Repeat = Unit {0}
+HasParts (Both a b) = (is_body a ≡ true) × (is_body b ≡ true)
+HasParts (Either a b) = (is_body a ≡ true) × (is_body b ≡ true)
+HasParts (IfElse c t e) = (is_body c ≡ true) × (is_body t ≡ true) × (is_body e ≡ true)
+HasParts (If c t) = (is_body c ≡ true) × (is_body t ≡ true)
+HasParts (Not g) = Unit {0}
+HasParts (Call g added) = Unit {0}
+HasParts (Once g) = Unit {0}
+HasParts (Equal a b) = Unit {0}
+HasParts (User i) = Unit {0}
+
+choose : (b : Bool) (c d : Control) → HasParts c → HasParts d → HasParts (if b then c else d)
+choose true c d h k = h
+choose false c d h k = k
+
+none_parts : (a : List ℕ) → HasParts (control_with_none a)
+none_parts a = choose (is_named (codes "true") a) _ _ tt (choose (is_named (codes "fail") a) _ _ tt (choose (is_named (codes "!") a) _ _ tt (choose (is_named (codes "repeat") a) _ _ tt tt)))
+
+one_parts : (f : List ℕ) (a : Tree) → HasParts (control_with_one f a)
+one_parts f a = choose (is_named (codes "call") f) _ _ tt (choose (is_named (codes "once") f) _ _ tt (choose (is_named (codes "\\+") f) _ _ tt tt))
+
+more_parts : (f : List ℕ) (a : Tree) (ts : Trees) → HasParts (control_with_more f a ts)
+more_parts f a ts = choose (is_named (codes "call") f && nat_lt (count ts) 8) _ _ tt tt
+
+condition_parts : (f : List ℕ) (c t e : Tree) (p q r : Bool) → (if p || (q || r) then is_body c && is_body t else true) ≡ true → is_body (two f c t) ≡ true → is_body e ≡ true
+    → HasParts (if r then IfElse c t e else Either (two f c t) e)
+condition_parts f c t e p q false h k l = (k, l)
+condition_parts f c t e true q true h k l = (first_true (is_body c) (is_body t) h, second_true (is_body c) (is_body t) h, l)
+condition_parts f c t e false true true h k l = (first_true (is_body c) (is_body t) h, second_true (is_body c) (is_body t) h, l)
+condition_parts f c t e false false true h k l = (first_true (is_body c) (is_body t) h, second_true (is_body c) (is_body t) h, l)
+
+either_has_parts : (a e : Tree) → is_body a ≡ true → is_body e ≡ true → HasParts (control_of_either a e)
+either_has_parts (variable n) e h k = (h, k)
+either_has_parts (integer z) e h k = (h, k)
+either_has_parts (atom a) e h k = (h, k)
+either_has_parts (compound f none) e h k = (h, k)
+either_has_parts (compound f (more c none)) e h k = (h, k)
+either_has_parts (compound f (more c (more t none))) e h k = condition_parts f c t e (is_named (codes ",") f) (is_named (codes ";") f) (is_named (codes "->") f) h h k
+either_has_parts (compound f (more c (more t (more u us)))) e h k = (h, k)
+
+connected_parts : (a b : Tree) (d : Control) (p q r : Bool) → HasParts d → (if p || (q || r) then is_body a && is_body b else true) ≡ true
+    → HasParts (if p then Both a b else if q then control_of_either a b else if r then If a b else d)
+connected_parts a b d true q r k h = (first_true (is_body a) (is_body b) h, second_true (is_body a) (is_body b) h)
+connected_parts a b d false true r k h = either_has_parts a b (first_true (is_body a) (is_body b) h) (second_true (is_body a) (is_body b) h)
+connected_parts a b d false false true k h = (first_true (is_body a) (is_body b) h, second_true (is_body a) (is_body b) h)
+connected_parts a b d false false false k h = k
+
+two_parts : (f : List ℕ) (a b : Tree) → is_body (two f a b) ≡ true → HasParts (control_with_two f a b)
+two_parts f a b h =
+    connected_parts a b (if is_named (codes "=") f then Equal a b else if is_named (codes "call") f then Call a (more b none) else User (record { name = f; arity = 2 }))
+    (is_named (codes ",") f) (is_named (codes ";") f) (is_named (codes "->") f)
+    (choose (is_named (codes "=") f) _ _ tt (choose (is_named (codes "call") f) _ _ tt tt)) h
+
+-- a body is a goal, and what it is made of are bodies
+pub parts : (g : Tree) → is_body g ≡ true → (c : Control) × (control_of g ≡ Some c) × HasParts c
+parts (variable n) h = absurd cc
+parts (integer z) h = absurd cc
+parts (atom a) h = (control_with_none a, refl, none_parts a)
+parts (compound f none) h = (User (record { name = f; arity = 0 }), refl, tt)
+parts (compound f (more a none)) h = (control_with_one f a, refl, one_parts f a)
+parts (compound f (more a (more b none))) h = (control_with_two f a b, refl, two_parts f a b h)
+parts (compound f (more a (more b (more c ts)))) h = (control_with_more f a (more b (more c ts)), refl, more_parts f a (more b (more c ts)))
+
+pub body_controlled : (g : Tree) → IsTrue (is_body g) → IsSome (control_of g)
+body_controlled g h = rw ((parts g h).1) refl
+
+-- ---- states
+
+-- what a move leaves is well made
+abbrev pub Makes : Outcome → Type 0
+Makes (Goes t) = IsWellMade t
+Makes (Ends r) = Unit {0}
+Makes Unfit = Unit {0}
+
+next_under-done : (m : ℕ → Tree) (n : Next) → CanBeDone n → CanBeDone (next_under m n)
+next_under-done m (Do g cut) h = is_body-substituted m g h
+next_under-done m (ConditionEnd k) h = tt
+next_under-done m (NotEnd k) h = tt
+
+all_under-done : (m : ℕ → Tree) (ns : List Next) → All CanBeDone ns → All CanBeDone (map (next_under m) ns)
+all_under-done m [] h = All-nil CanBeDone
+all_under-done m (n ∷ ns) h = All-cons CanBeDone (next_under m n) (map (next_under m) ns) (next_under-done m n (All-head CanBeDone n ns h)) (all_under-done m ns (All-tail CanBeDone n ns h))
+
+solving-makes : (new : List Next) (s : State) (o : Option (ℕ → Tree)) → All CanBeDone new → IsWellMade s → Makes (solving new s o)
+solving-makes new s None n h = record { goals = h.goals; stack = h.stack }
+solving-makes new s (Some m) n h = record { goals = all_under-done m (new ++ s.goals) (All-append CanBeDone new s.goals n h.goals); stack = h.stack }
+
+-- one more first
+first_done : (g : Tree) (cut : ℕ) (ns : List Next) → is_body g ≡ true → All CanBeDone ns → All CanBeDone (Do g cut ∷ ns)
+first_done g cut ns h k = All-cons CanBeDone (Do g cut) ns h k
+
+end_done : (n : ℕ) (ns : List Next) → All CanBeDone ns → All CanBeDone (ConditionEnd n ∷ ns)
+end_done n ns k = All-cons CanBeDone (ConditionEnd n) ns tt k
+
+one_done : (g : Tree) (cut : ℕ) → is_body g ≡ true → All CanBeDone (Do g cut ∷ [])
+one_done g cut h = first_done g cut [] h (All-nil CanBeDone)
+
+pushed-well : (a : Alternative) (s : State) → CanBeTaken a → IsWellMade s → IsWellMade (pushed a s)
+pushed-well a s t h = record { goals = h.goals; stack = All-cons CanGoBack (record { what = a; goals = s.goals; bindings = s.bindings }) s.stack (record { what = t; goals = h.goals }) h.stack }
+
+body_from-done : (from cut : ℕ) (c : Clause) → HasBody c → All CanBeDone (body_from from cut c)
+body_from-done from cut c h = go (is_true_atom c.body)
+  where
+    go : (b : Bool) → All CanBeDone (map (λ goal. Do (renamed from goal) cut) (if b then [] else c.body ∷ []))
+    go true = All-nil CanBeDone
+    go false = one_done (renamed from c.body) cut (is_body-substituted (λ v. variable (from + v)) c.body h)
+
+entering-makes : (goal : Tree) (c : Clause) (from cut : ℕ) (s : State) → HasBody c → IsWellMade s → Makes (entering goal c from cut s)
+entering-makes goal c from cut s b h = solving-makes (body_from from cut c) s (unifier (renamed from c.head) goal) (body_from-done from cut c b) h
+
+trying-makes : (goal : Tree) (cs : List Clause) (s : State) → All HasBody cs → IsWellMade s → Makes (trying goal cs s)
+trying-makes goal [] s b h = record { goals = h.goals; stack = h.stack }
+trying-makes goal (c ∷ []) s b h = entering-makes goal c s.fresh (height s) (numbering c (record s { tried = s.tried + 1 })) (All-head HasBody c [] b) (record { goals = h.goals; stack = h.stack })
+trying-makes goal (c ∷ d ∷ ds) s b h =
+    entering-makes goal c s.fresh (height s) (numbering c (leaving goal (d ∷ ds) (record s { tried = s.tried + 1 }))) (All-head HasBody c (d ∷ ds) b)
+    (let k : IsWellMade (pushed (Clauses goal (d ∷ ds)) s) = pushed-well (Clauses goal (d ∷ ds)) s (All-tail HasBody c (d ∷ ds) b) h in record { goals = k.goals; stack = k.stack })
+
+in_all : {X : Type 0} (P : X → Type 0) (xs : List X) (k : ℕ) → All P xs → IfSome (slice_get xs k) P
+in_all P [] zero h = tt
+in_all P [] (suc k) h = tt
+in_all P (x ∷ xs) zero h = All-head P x xs h
+in_all P (x ∷ xs) (suc k) h = in_all P xs k (All-tail P x xs h)
+
+named-body : (J : Journal) (k : ℕ) → HasBodies J → IfSome (clause_named J k) HasBody
+named-body J k h = go (slice_get J k) (in_all (λ e. IfSome (added e.what) HasBody) J k h)
+  where
+    go : (o : Option Entry) → IfSome o (λ e. IfSome (added e.what) HasBody) → IfSome (option_and_then (λ e. added e.what) o) HasBody
+    go None h = tt
+    go (Some e) h = h
+
+all_named-bodies : (J : Journal) (ks : List ℕ) → HasBodies J → All HasBody (filter_map (clause_named J) ks)
+all_named-bodies J [] h = All-nil HasBody
+all_named-bodies J (k ∷ ks) h = go (clause_named J k) (named-body J k h) (all_named-bodies J ks h)
+  where
+    go : (o : Option Clause) → IfSome o HasBody → All HasBody (filter_map (clause_named J) ks) → All HasBody (cons_option o (filter_map (clause_named J) ks))
+    go None b h = h
+    go (Some c) b h = All-cons HasBody c (filter_map (clause_named J) ks) b h
+
+called-makes : (goal : Tree) (i : Indicator) (before : ℕ) (seen : Journal) (s : State) (o : Option ℕ) → HasBodies seen → IsWellMade s → Makes (called goal i before seen s o)
+called-makes goal i before seen s None b h = record { goals = h.goals; stack = h.stack }
+called-makes goal i before seen s (Some p) b h = trying-makes goal (candidate_clauses seen p (keys goal)) (looked before s p goal) (all_named-bodies seen (candidates seen p (keys goal)) b) (record { goals = h.goals; stack = h.stack })
+
+calling-makes : (x : Setting) (s : State) (goal : Tree) (i : Indicator) → HasBodies x.journal → IsWellMade s → Makes (calling x s goal i)
+calling-makes x s goal i b h = go s.fronts
+  where
+    at : (f : ℕ) (fs : List ℕ) (c : Bool) → Makes (if c then called goal i s.front (take f x.journal) (record s { front = f; fronts = fs }) (number_of (take f x.journal) i) else Unfit)
+    at f fs true = called-makes goal i s.front (take f x.journal) (record s { front = f; fronts = fs }) (number_of (take f x.journal) i) (All-take (λ e. IfSome (added e.what) HasBody) f x.journal b) (record { goals = h.goals; stack = h.stack })
+    at f fs false = tt
+
+    go : (fs : List ℕ) → Makes (elim fs [ [] ↦ Unfit | f ∷ gs ↦ if nat_le s.front f && nat_le f (length x.journal) then called goal i s.front (take f x.journal) (record s { front = f; fronts = gs }) (number_of (take f x.journal) i) else Unfit ])
+    go [] = tt
+    go (f ∷ gs) = at f gs (nat_le s.front f && nat_le f (length x.journal))
+
+running-makes : (goal : Tree) (at : Indicator) (s : State) (o : Option Tree) → IfSome o (λ b. IsTrue (is_body b)) → IsWellMade s → Makes (running goal at s o)
+running-makes goal at s None b h = record { goals = h.goals; stack = h.stack }
+running-makes goal at s (Some body) b h = record { goals = first_done body (height s) s.goals b h.goals; stack = h.stack }
+
+denying-makes : (goal : Tree) (s : State) (o : Option Tree) → IfSome o (λ b. IsTrue (is_body b)) → IsWellMade s → Makes (denying goal s o)
+denying-makes goal s None b h = record { goals = h.goals; stack = h.stack }
+denying-makes goal s (Some body) b h = record {
+  goals = first_done body (suc (height s)) (NotEnd (height s) ∷ s.goals) b (All-cons CanBeDone (NotEnd (height s)) s.goals tt h.goals);
+  stack = (pushed-well NotMark s tt h).stack;
+}
+
+calling_added-makes : (goal : Tree) (added : Trees) (s : State) → IsWellMade s → Makes (calling_added goal added s)
+calling_added-makes (variable n) added s h = record { goals = h.goals; stack = h.stack }
+calling_added-makes (integer z) added s h = record { goals = h.goals; stack = h.stack }
+calling_added-makes (atom a) added s h = running-makes (with_added (atom a) added) (call_with added) s (body_of (with_added (atom a) added)) (is_converted (with_added (atom a) added)) h
+calling_added-makes (compound f ts) added s h = go (nat_lt 255 (count ts + count added))
+  where
+    go : (b : Bool) → Makes (if b then raises (Representation (codes "max_arity")) (call_with added) s else running (with_added (compound f ts) added) (call_with added) s (body_of (with_added (compound f ts) added)))
+    go true = record { goals = h.goals; stack = h.stack }
+    go false = running-makes (with_added (compound f ts) added) (call_with added) s (body_of (with_added (compound f ts) added)) (is_converted (with_added (compound f ts) added)) h
+
+performing-makes : (x : Setting) (goal : Tree) (cut : ℕ) (c : Control) (s : State) → HasBodies x.journal → HasParts c → IsWellMade s → Makes (performing x goal cut c s)
+performing-makes x goal cut True s b p h = h
+performing-makes x goal cut Fail s b p h = record { goals = h.goals; stack = h.stack }
+performing-makes x goal cut Cut s b p h = record { goals = h.goals; stack = All-drop CanGoBack (length s.stack - cut) s.stack h.stack }
+performing-makes x goal cut Repeat s b p h = pushed-well Again s tt h
+performing-makes x goal cut (Both l r) s b p h = record { goals = first_done l cut (Do r cut ∷ s.goals) p.0 (first_done r cut s.goals p.1 h.goals); stack = h.stack }
+performing-makes x goal cut (Either l r) s b p h = record { goals = first_done l cut s.goals p.0 h.goals; stack = (pushed-well (Right r cut) s p.1 h).stack }
+performing-makes x goal cut (IfElse c t e) s b p h = record {
+  goals = first_done c (suc (height s)) (ConditionEnd (height s) ∷ Do t cut ∷ s.goals) p.0 (end_done (height s) (Do t cut ∷ s.goals) (first_done t cut s.goals p.1 h.goals));
+  stack = (pushed-well (Right e cut) s p.2 h).stack;
+}
+performing-makes x goal cut (If c t) s b p h = record {
+  goals = first_done c (height s) (ConditionEnd (height s) ∷ Do t cut ∷ s.goals) p.0 (end_done (height s) (Do t cut ∷ s.goals) (first_done t cut s.goals p.1 h.goals));
+  stack = h.stack;
+}
+performing-makes x goal cut (Not g) s b p h = denying-makes g s (body_of g) (is_converted g) h
+performing-makes x goal cut (Call g added) s b p h = calling_added-makes g added s h
+performing-makes x goal cut (Once g) s b p h = record { goals = first_done (two (codes "->") (call_term g) (atom (codes "true"))) cut s.goals refl h.goals; stack = h.stack }
+performing-makes x goal cut (Equal l r) s b p h = solving-makes [] s (unifier l r) (All-nil CanBeDone) h
+performing-makes x goal cut (User i) s b p h = calling-makes x s goal i b h
+
+over-makes : (x : Setting) (s : State) (e : RunEnd) → Makes (over x s e)
+over-makes x s e = go (no_more s.fronts && made_all x)
+  where
+    go : (b : Bool) → Makes (if b then Ends (record { events = s.events; looks = s.looks; tried = s.tried; steps = s.steps; end = e }) else Unfit)
+    go true = tt
+    go false = tt
+
+stepping-makes : (x : Setting) (s : State) (then_ : State → Outcome) → Makes (then_ (record s { steps = suc s.steps })) → Makes (stepping x s then_)
+stepping-makes x s then_ h = go (s.steps == x.budget)
+  where
+    go : (b : Bool) → Makes (if b then over x s (Spent s.steps) else then_ (record s { steps = suc s.steps }))
+    go true = over-makes x s (Spent s.steps)
+    go false = h
+
+performed-makes : (x : Setting) (goal : Tree) (cut : ℕ) (s : State) (c : Control) → HasBodies x.journal → HasParts c → IsWellMade s → Makes (stepping x s (performing x goal cut c))
+performed-makes x goal cut s c b p h = stepping-makes x s (performing x goal cut c) (performing-makes x goal cut c (record s { steps = suc s.steps }) b p (record { goals = h.goals; stack = h.stack }))
+
+doing-makes : (x : Setting) (goal : Tree) (cut : ℕ) (s : State) (c : Control) → HasBodies x.journal → HasParts c → IsWellMade s → Makes (doing x goal cut s c)
+doing-makes x goal cut s True b p h = performed-makes x goal cut s True b p h
+doing-makes x goal cut s Fail b p h = performed-makes x goal cut s Fail b p h
+doing-makes x goal cut s Cut b p h = performed-makes x goal cut s Cut b p h
+doing-makes x goal cut s Repeat b p h = performed-makes x goal cut s Repeat b p h
+doing-makes x goal cut s (Both l r) b p h = performing-makes x goal cut (Both l r) s b p h
+doing-makes x goal cut s (Either l r) b p h = performed-makes x goal cut s (Either l r) b p h
+doing-makes x goal cut s (IfElse c t e) b p h = performed-makes x goal cut s (IfElse c t e) b p h
+doing-makes x goal cut s (If c t) b p h = performed-makes x goal cut s (If c t) b p h
+doing-makes x goal cut s (Not g) b p h = performed-makes x goal cut s (Not g) b p h
+doing-makes x goal cut s (Call g added) b p h = performed-makes x goal cut s (Call g added) b p h
+doing-makes x goal cut s (Once g) b p h = performed-makes x goal cut s (Once g) b p h
+doing-makes x goal cut s (Equal l r) b p h = performed-makes x goal cut s (Equal l r) b p h
+doing-makes x goal cut s (User i) b p h = performed-makes x goal cut s (User i) b p h
+
+going-makes : (x : Setting) (s : State) (gs : List Next) → HasBodies x.journal → All CanBeDone gs → IsWellMade s → Makes (going x s gs)
+going-makes x s [] b d h = record { goals = h.goals; stack = h.stack }
+going-makes x s (Do g cut ∷ rest) b d h =
+    let k : (c : Control) × (control_of g ≡ Some c) × HasParts c = parts g (All-head CanBeDone (Do g cut) rest d) in
+    rw (k.1) (doing-makes x g cut (record s { goals = rest }) k.0 b k.2 (record { goals = All-tail CanBeDone (Do g cut) rest d; stack = h.stack }))
+going-makes x s (ConditionEnd k ∷ rest) b d h = record { goals = All-tail CanBeDone (ConditionEnd k) rest d; stack = All-drop CanGoBack (length s.stack - k) s.stack h.stack }
+going-makes x s (NotEnd k ∷ rest) b d h = record { goals = All-tail CanBeDone (NotEnd k) rest d; stack = All-drop CanGoBack (length s.stack - k) s.stack h.stack }
+
+taken-makes : (x : Setting) (s : State) (a : Alternative) → CanBeTaken a → IsWellMade s → Makes (taken x s a)
+taken-makes x s (Clauses goal rest) t h = stepping-makes x s (trying goal rest) (trying-makes goal rest (record s { steps = suc s.steps }) t (record { goals = h.goals; stack = h.stack }))
+taken-makes x s (Right goal cut) t h = stepping-makes x s (onwards (Do goal cut ∷ [])) (record { goals = first_done goal cut s.goals t h.goals; stack = h.stack })
+taken-makes x s Again t h = stepping-makes x s repeating (let k : IsWellMade (pushed Again s) = pushed-well Again s tt h in record { goals = k.goals; stack = k.stack })
+taken-makes x s NotMark t h = h
+
+failing-makes : (x : Setting) (s : State) (st : List Choice) → All CanGoBack st → Makes (failing x s st)
+failing-makes x s [] h = over-makes x s Exhausted
+failing-makes x s (c ∷ below) h = taken-makes x (back_to s c below) c.what (All-head CanGoBack c below h).what (record { goals = (All-head CanGoBack c below h).goals; stack = All-tail CanGoBack c below h })
+
+pub move-makes : (x : Setting) (s : State) → HasBodies x.journal → IsWellMade s → Makes (move x s)
+move-makes x s b h = go s.mode
+  where
+    go : (m : Mode) → Makes (elim m [ Going ↦ going x s s.goals | Failing ↦ failing x s s.stack | Raising ball ↦ raising x s ball ])
+    go Going = going-makes x s s.goals b h.goals h
+    go Failing = failing-makes x s s.stack h.stack
+    go (Raising ball) = over-makes x s (Ball ball)
+
+pub goes-makes : (x : Setting) (s t : State) → HasBodies x.journal → IsWellMade s → move x s ≡ Goes t → IsWellMade t
+goes-makes x s t b h e = let P : Outcome → Type 0 = λ o. Makes o in subst P e (move-makes x s b h)
+
+first-body : (goal : Tree) (o : Option Tree) → IfSome o (λ b. IsTrue (is_body b)) → IsTrue (is_body (or_call goal o))
+first-body goal None h = refl
+first-body goal (Some body) h = h
+
+pub begins-well : (x : Setting) (goal : Tree) (fronts : List ℕ) → IsWellMade (beginning x goal fronts)
+begins-well x goal fronts = record { goals = one_done (first_body goal) 0 (first-body goal (body_of goal) (is_converted goal)); stack = All-nil CanGoBack }
+
+pub goals_are_bodies : GoalsAreBodies
+goals_are_bodies = record { begins = begins-well; goes = goes-makes; controlled = body_controlled }

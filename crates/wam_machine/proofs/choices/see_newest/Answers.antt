@@ -1,0 +1,11 @@
+use Rattle.wam_machine.proofs.Tops.{top-none, top-mark, top-open}
+use Rattle.wam_machine.proofs.choices.see_newest.Goals as goal
+
+pub returns-in-None : goal.returns-in-None
+returns-in-None g c = top-none c.args.terms.now c.deref.result.now c.deref.ensures.value c.in-None.ensures.value
+
+pub returns-in-NotMark : goal.returns-in-NotMark
+returns-in-NotMark g c = top-mark c.args.terms.now c.deref.result.now c.deref.ensures.value c.in-Some.choice.now c.in-Some.ensures.value c.in-NotMark.is
+
+pub returns-in_default : goal.returns-in_default
+returns-in_default g c = top-open c.args.terms.now c.deref.result.now c.deref.ensures.value c.in-Some.choice.now c.in-Some.ensures.value c.in_default.not-NotMark

@@ -1,0 +1,57 @@
+use Rattle.std.proofs.Common.{◌++◌, ◌∷◌, [], refl, sym, subst}
+use Rattle.std.specs.Prelude.{All}
+use Rattle.wam_machine.specs.Cursors.{AreNamed}
+use Rattle.wam_machine.specs.Machine.{Do}
+use Rattle.wam_machine.specs.Terms.{OfRight, OfRepeat, OfNot, built, call_now, turn_now}
+use Rattle.wam_machine.specs.View.{calls, turn_calls, Resumes}
+use Rattle.wam_machine.specs.declared.state.Machine.{Machine}
+use Rattle.wam_machine.specs.declared.terms.Alternative.{Alternative}
+use Rattle.wam_machine.proofs.Acted.{acts-onwards}
+use Rattle.wam_machine.proofs.Begins.{looks_refl}
+use Rattle.wam_machine.proofs.Resumed.{resumes_call, resumes_acts, acts_still}
+use Rattle.wam_machine.proofs.machine.resume.Goals as goal
+
+pub returns-in_err-push_next-in-Right-clause-seen : goal.returns-in_err-push_next-in-Right-clause-seen
+returns-in_err-push_next-in-Right-clause-seen g c = looks_refl _ c.requires.sound
+
+pub returns-in_err-repeat-in-Again-clause-seen : goal.returns-in_err-repeat-in-Again-clause-seen
+returns-in_err-repeat-in-Again-clause-seen g c = looks_refl _ c.requires.sound
+
+pub returns-in_ok-take-in-Clauses-clause-resumed : goal.returns-in_ok-take-in-Clauses-clause-resumed
+returns-in_ok-take-in-Clauses-clause-resumed g c = λ j b.
+    let m = c.args.machine.now in
+    let n = c.take.new.machine in
+    subst (λ (a : Alternative _). Resumes g.B.Base.rest g.B.Base.may_visit g.B.Base.looked_at g.B.Base.ahead j (turn_now m.terms a) m n) (sym c.in-Clauses.is)
+    (resumes_call g.B.Base.rest g.B.Base.may_visit g.B.Base.looked_at g.B.Base.ahead j (call_now m.terms c.in-Clauses.call) m n (c.in_ok-take-in-Clauses.ensures.tried j b))
+
+pub returns-in_ok-push_next-in-Right-clause-seen : goal.returns-in_ok-push_next-in-Right-clause-seen
+returns-in_ok-push_next-in-Right-clause-seen g c = looks_refl _ c.requires.sound
+
+pub returns-in_ok-push_next-in-Right-clause-resumed : goal.returns-in_ok-push_next-in-Right-clause-resumed
+returns-in_ok-push_next-in-Right-clause-resumed g c = λ j b.
+    let m = c.args.machine.now in
+    let n : Machine _ = record m { terms = c.push_next.new.terms } in
+    let w = built m.terms c.in-Right.goal in
+    let e = c.in_ok-push_next-in-Right.ensures in
+    subst (λ (a : Alternative _). All (AreNamed g.B.Base.rest g.B.Base.looked_at j) (calls m ++ turn_calls (turn_now m.terms a)) → Resumes g.B.Base.rest g.B.Base.may_visit g.B.Base.looked_at g.B.Base.ahead j (turn_now m.terms a) m n) (sym c.in-Right.is)
+    (resumes_acts g.B.Base.rest g.B.Base.may_visit g.B.Base.looked_at g.B.Base.ahead j (OfRight w c.in-Right.cut) m n refl
+    (acts-onwards m n e.terms refl (λ _. Do w c.in-Right.cut ∷ []) refl e.said)) (c.requires.named j b)
+
+pub returns-in_ok-repeat-in-Again-clause-seen : goal.returns-in_ok-repeat-in-Again-clause-seen
+returns-in_ok-repeat-in-Again-clause-seen g c = looks_refl _ c.requires.sound
+
+pub returns-in_ok-repeat-in-Again-clause-resumed : goal.returns-in_ok-repeat-in-Again-clause-resumed
+returns-in_ok-repeat-in-Again-clause-resumed g c = λ j b.
+    let m = c.args.machine.now in
+    let n = c.repeat.new.machine in
+    subst (λ (a : Alternative _). All (AreNamed g.B.Base.rest g.B.Base.looked_at j) (calls m ++ turn_calls (turn_now m.terms a)) → Resumes g.B.Base.rest g.B.Base.may_visit g.B.Base.looked_at g.B.Base.ahead j (turn_now m.terms a) m n) (sym c.in-Again.is)
+    (resumes_acts g.B.Base.rest g.B.Base.may_visit g.B.Base.looked_at g.B.Base.ahead j OfRepeat m n refl c.in_ok-repeat-in-Again.ensures.acts) (c.requires.named j b)
+
+pub returns-in-NotMark-clause-seen : goal.returns-in-NotMark-clause-seen
+returns-in-NotMark-clause-seen g c = looks_refl _ c.requires.sound
+
+pub returns-in-NotMark-clause-resumed : goal.returns-in-NotMark-clause-resumed
+returns-in-NotMark-clause-resumed g c = λ j b.
+    let m = c.args.machine.now in
+    subst (λ (a : Alternative _). All (AreNamed g.B.Base.rest g.B.Base.looked_at j) (calls m ++ turn_calls (turn_now m.terms a)) → Resumes g.B.Base.rest g.B.Base.may_visit g.B.Base.looked_at g.B.Base.ahead j (turn_now m.terms a) m m) (sym c.in-NotMark.is)
+    (resumes_acts g.B.Base.rest g.B.Base.may_visit g.B.Base.looked_at g.B.Base.ahead j OfNot m m refl (acts_still m c.requires.terms)) (c.requires.named j b)

@@ -1,0 +1,71 @@
+// The balls of errors that goals raise.
+ghost use Rattle.std.specs.Prelude.{◌≡◌, suc, ◌<◌, IfOk, codes};
+ghost use Rattle.prolog_terms.specs.Faults.{fault_tree};
+ghost use Rattle.prolog_terms.specs.declared.fault.Fault.TheVariants.{Existence, Instantiation, Representation};
+ghost use Rattle.wam_machine.specs.Machine.{not_callable};
+ghost use Rattle.wam_machine.specs.Terms.{AreTerms, IsBuilt, built};
+
+use crate::terms::Terms;
+use prolog_terms::{Fault, Indicator, Name, Term, Want, copy_indicator, fault_term};
+use std::alloc::Global;
+use term_store::Cell;
+
+/// The error of a call of an undeclared procedure.
+pub(crate) fn missing(alloc: Global, indicator: &Indicator) -> Result<Term, Want>
+    ensures { IfOk result (λ t. t ≡ fault_tree (Existence indicator.now) indicator.now) }
+{
+    let fault = Fault::Existence(copy_indicator(indicator)?);
+    fault_term(alloc, &fault, indicator)
+}
+
+/// The error of an unbound goal.
+pub(crate) fn unbound(alloc: Global, at: &Indicator) -> Result<Term, Want>
+    ensures { IfOk result (λ t. t ≡ fault_tree Instantiation at.now) }
+{
+    fault_term(alloc, &Fault::Instantiation, at)
+}
+
+/// The error of a goal that would have more than 255 arguments.
+pub(crate) fn too_many(alloc: Global, at: &Indicator) -> Result<Term, Want>
+    ensures { IfOk result (λ t. t ≡ fault_tree (Representation (codes "max_arity")) at.now) }
+{
+    let flag = Name::of(alloc, b"max_arity")?;
+    fault_term(alloc, &Fault::Representation(flag), at)
+}
+
+/// The error of a goal that can't be a body; its variables are numbered from 0.
+pub(crate) fn uncallable<C>(
+    alloc: Global,
+    terms: &Terms<C>,
+    goal: Cell,
+    at: &Indicator,
+) -> Result<Term, Want>
+    requires terms { AreTerms terms.now }
+    requires goal { IsBuilt terms.now goal }
+    ensures { IfOk result (λ t. t ≡ fault_tree (not_callable (built terms.now goal)) at.now) }
+{
+    let culprit = terms.store.read_back(&terms.names, goal)?;
+    let callable = Name::of(alloc, b"callable")?;
+    fault_term(alloc, &Fault::OfType(callable, culprit), at)
+}
+
+/// The name and arity of `call` with so many arguments added.
+pub(crate) fn call_indicator(alloc: Global, added: usize) -> Result<Indicator, Want>
+    requires { added < 8 }
+    ensures { IfOk result (λ i. i ≡ record { name = codes "call"; arity = suc added }) }
+{
+    Ok(Indicator {
+        name: Name::of(alloc, b"call")?,
+        arity: added as u32 + 1,
+    })
+}
+
+/// The name and arity of `\+`.
+pub(crate) fn not_indicator(alloc: Global) -> Result<Indicator, Want>
+    ensures { IfOk result (λ i. i ≡ record { name = codes "\\+"; arity = 1 }) }
+{
+    Ok(Indicator {
+        name: Name::of(alloc, b"\\+")?,
+        arity: 1,
+    })
+}

@@ -1,5 +1,9 @@
-use Rattle.std.proofs.Common.{◌≡◌, ℕ, ◌+◌, ◌-◌, ◌≤◌, List, ◌++◌, length, take, drop, subst, sym, ap, ◌∙◌, arith}
+use Rattle.std.proofs.Common.{◌≡◌, ℕ, ◌+◌, ◌-◌, ◌≤◌, List, ◌++◌, length, take, drop, subst, sym, ap, ◌∙◌, append_assoc, arith}
 use Rattle.std.proofs.lemmas.List.{take-append-drop, take-take, drop-take, drop-drop, length-take-le, length-drop, take_at}
+
+-- three pieces that were put at the end, one after the other, the last of two parts
+pub three_put : (old a b p q first second third : List ℕ) → first ≡ old ++ a → second ≡ first ++ b → third ≡ second ++ (p ++ q) → third ≡ old ++ (((a ++ b) ++ p) ++ q)
+three_put old a b p q first second third f g h = rw (h, g, f) (simp append_assoc)
 
 -- two pieces after each other are one piece
 pub taken_twice : (n k : ℕ) (xs : List ℕ) → take n xs ++ take k (drop n xs) ≡ take (n + k) xs

@@ -2,14 +2,14 @@
 use Rattle.std.specs.Prelude.{ℕ, ◌+◌, List, [], ◌∷◌, ◌++◌, Bool, true, false, not, ◌==◌, filter, codes, if◌then◌else◌}
 use Rattle.std.specs.List.{flat_map, list_any}
 use Rattle.std.specs.Fmt.{decimal}
-use Rattle.prolog_terms.specs.Tree.{Tree, compound, none, more}
+use Rattle.prolog_terms.specs.Tree.{Tree, integer, compound, none, more}
 use Rattle.prolog_terms.specs.Operators.{Table}
 use Rattle.prolog_terms.specs.declared.shown.Shown.{Shown}
 use Rattle.wam_machine.specs.declared.run.Event.{Event}
 use Rattle.wam_machine.specs.declared.run.Event.TheVariants.{Answer}
 use Rattle.wam_machine.specs.declared.run.Run.{Run}
 use Rattle.wam_machine.specs.declared.run.RunEnd.{RunEnd}
-use Rattle.wam_machine.specs.declared.run.RunEnd.TheVariants.{Exhausted, Ball, Spent, Want}
+use Rattle.wam_machine.specs.declared.run.RunEnd.TheVariants.{Exhausted, Ball, Spent, Halted, Want}
 use Rattle.prolog_writer.specs.Shapes.{is_cell}
 use Rattle.prolog_writer.specs.Pieces.{written}
 use Rattle.prolog_writer.specs.declared.style.Style.TheVariants.{Quoted}
@@ -70,6 +70,7 @@ abbrev pub end_text : Table → List Event → RunEnd → List ℕ
 end_text ops events Exhausted = if is_closed events then [] else codes "false." ++ newline
 end_text ops events (Ball term) = codes "error: " ++ written ops Quoted 1200 term ++ codes "." ++ newline
 end_text ops events (Spent n) = codes "stopped after " ++ decimal n ++ codes " steps." ++ newline
+end_text ops events (Halted code) = codes "halted with " ++ written ops Quoted 1200 (integer code) ++ codes "." ++ newline
 end_text ops events Want = []
 
 -- ---- the load
@@ -89,6 +90,7 @@ abbrev pub has_answered : List Event → RunEnd → Bool
 has_answered events Exhausted = list_any is_answer events
 has_answered events (Ball term) = false
 has_answered events (Spent n) = false
+has_answered events (Halted code) = false
 has_answered events Want = false
 
 -- The text of a run of the load: nothing where it had an answer and is exhausted, else the line of its read-term and its end.

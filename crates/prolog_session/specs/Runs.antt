@@ -7,7 +7,7 @@ use Rattle.wam_machine.specs.Runs.{IsTranscribed}
 use Rattle.wam_machine.specs.declared.run.Goal.{Goal}
 use Rattle.wam_machine.specs.declared.run.Run.{Run}
 use Rattle.wam_machine.specs.declared.run.RunEnd.{RunEnd}
-use Rattle.wam_machine.specs.declared.run.RunEnd.TheVariants.{Exhausted, Ball, Spent, Want}
+use Rattle.wam_machine.specs.declared.run.RunEnd.TheVariants.{Exhausted, Ball, Spent, Halted, Want}
 use Rattle.prolog_session.specs.declared.words.Command.{Command}
 
 -- A run of the goal over the journal by this engine within the budget, with this line, for which memory sufficed. Each of its looks is
@@ -44,12 +44,14 @@ abbrev pub is_ball : RunEnd → Bool
 is_ball Exhausted = false
 is_ball (Ball ball) = true
 is_ball (Spent steps) = false
+is_ball (Halted code) = false
 is_ball Want = false
 
 abbrev pub is_spent : RunEnd → Bool
 is_spent Exhausted = false
 is_spent (Ball ball) = false
 is_spent (Spent steps) = true
+is_spent (Halted code) = false
 is_spent Want = false
 
 abbrev pub ends_in_ball : Run → Bool

@@ -1,5 +1,5 @@
-//! The whole program over any source and any sink: a text of clauses is loaded, goals are run over it, and their answers are
-//! written.
+//! The whole program over any source and any sink: a text of clauses and directives is loaded, a goal is run over it, and their
+//! answers are written.
 //!
 //! `session::top` is the program; its clauses say what each status means, what the sink gains and what is left of the source.
 #![tactic(auto)]

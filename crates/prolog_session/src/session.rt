@@ -20,11 +20,12 @@ use std::alloc::Global;
 use std::sync::Wait;
 use std::thread::Threads;
 
-/// Reads the whole source, loads its clauses into a base of these sizes and runs its directives on the way, runs the goal of the
-/// words and writes the answers. What the load can't add, and what has no room, has a run of its own that ends in an error, and
-/// the load goes on. The status is 0, 1 or 7 after the runs (1 where one ends in a ball, else 7 where one has spent its budget),
-/// and else the number of what went wrong: 2 bad words, 3 a read-term that is refused, 4 the source failed, 5 the sink failed,
-/// 6 memory was wanted, 8 the text is too long.
+/// Reads the whole source and loads it into a base of these sizes: its clauses are added, its operators declared and its goals
+/// run, those that are kept after the last read-term. Then the goal of the words is run, and the answers are written. What the
+/// load can't add, what has no room and a directive that raises an error have a run that ends in the error, and the load goes
+/// on. The status is 0, 1 or 7 after the runs (1 where one ends in a ball, else 7 where one has spent its budget), and else the
+/// number of what went wrong: 2 bad words, 3 a read-term that is refused, 4 the source failed, 5 the sink failed, 6 memory was
+/// wanted, 8 the text is too long.
 pub fn top<R: Threads + Wait + Sync, S: Source, K: Sink, G: Gate + Sync>(
     rt: &R,
     alloc: Global,

@@ -12,9 +12,9 @@ use crate::{MemorySink, MemorySource, Sink, Source, SteadySink, SteadySource};
 use journal_base::{Gate, OpenGate, Sizes};
 use prolog_terms::{Ops, Want};
 use std::alloc::Global;
-use std::cell::Cell;
 use std::process::Abort;
 use std::sync::Wait;
+use std::sync::atomic::{AtomicU32, AtomicU64, Ordering};
 use std::thread::Threads;
 
 const SIZES: Sizes = Sizes {
@@ -920,6 +920,391 @@ const RAISED: [Row; 19] = [
     ),
 ];
 
+// Each head that no text may define.
+const RESERVED: Row = (
+    "!.\n\
+        true.\n\
+        fail.\n\
+        repeat.\n\
+        halt.\n\
+        nl.\n\
+        \\+(a).\n\
+        call(a).\n\
+        once(a).\n\
+        throw(a).\n\
+        halt(a).\n\
+        var(a).\n\
+        nonvar(a).\n\
+        atom(a).\n\
+        integer(a).\n\
+        number(a).\n\
+        atomic(a).\n\
+        compound(a).\n\
+        callable(a).\n\
+        write(a).\n\
+        writeq(a).\n\
+        write_canonical(a).\n\
+        put_char(a).\n\
+        asserta(a).\n\
+        assertz(a).\n\
+        retract(a).\n\
+        retractall(a).\n\
+        abolish(a).\n\
+        ','(a,b).\n\
+        ;(a,b).\n\
+        ->(a,b).\n\
+        call(a,b).\n\
+        =(a,b).\n\
+        unify_with_occurs_check(a,b).\n\
+        \\=(a,b).\n\
+        ==(a,b).\n\
+        \\==(a,b).\n\
+        @<(a,b).\n\
+        @=<(a,b).\n\
+        @>(a,b).\n\
+        @>=(a,b).\n\
+        =..(a,b).\n\
+        copy_term(a,b).\n\
+        atom_length(a,b).\n\
+        atom_codes(a,b).\n\
+        atom_chars(a,b).\n\
+        char_code(a,b).\n\
+        is(a,b).\n\
+        =:=(a,b).\n\
+        =\\=(a,b).\n\
+        <(a,b).\n\
+        =<(a,b).\n\
+        >(a,b).\n\
+        >=(a,b).\n\
+        clause(a,b).\n\
+        call(a,b,c).\n\
+        catch(a,b,c).\n\
+        findall(a,b,c).\n\
+        compare(a,b,c).\n\
+        functor(a,b,c).\n\
+        arg(a,b,c).\n\
+        call(a,b,c,d).\n\
+        call(a,b,c,d,e).\n\
+        call(a,b,c,d,e,f).\n\
+        call(a,b,c,d,e,f,g).\n\
+        call(a,b,c,d,e,f,g,h).\n",
+    &[],
+    1,
+    "% line 1: error: error(permission_error(modify,static_procedure,!/0),assertz/1).\n\
+        % line 2: error: error(permission_error(modify,static_procedure,true/0),assertz/1).\n\
+        % line 3: error: error(permission_error(modify,static_procedure,fail/0),assertz/1).\n\
+        % line 4: error: error(permission_error(modify,static_procedure,repeat/0),assertz/1).\n\
+        % line 5: error: error(permission_error(modify,static_procedure,halt/0),assertz/1).\n\
+        % line 6: error: error(permission_error(modify,static_procedure,nl/0),assertz/1).\n\
+        % line 7: error: error(permission_error(modify,static_procedure,(\\+)/1),assertz/1).\n\
+        % line 8: error: error(permission_error(modify,static_procedure,call/1),assertz/1).\n\
+        % line 9: error: error(permission_error(modify,static_procedure,once/1),assertz/1).\n\
+        % line 10: error: error(permission_error(modify,static_procedure,throw/1),assertz/1).\n\
+        % line 11: error: error(permission_error(modify,static_procedure,halt/1),assertz/1).\n\
+        % line 12: error: error(permission_error(modify,static_procedure,var/1),assertz/1).\n\
+        % line 13: error: error(permission_error(modify,static_procedure,nonvar/1),assertz/1).\n\
+        % line 14: error: error(permission_error(modify,static_procedure,atom/1),assertz/1).\n\
+        % line 15: error: error(permission_error(modify,static_procedure,integer/1),assertz/1).\n\
+        % line 16: error: error(permission_error(modify,static_procedure,number/1),assertz/1).\n\
+        % line 17: error: error(permission_error(modify,static_procedure,atomic/1),assertz/1).\n\
+        % line 18: error: error(permission_error(modify,static_procedure,compound/1),assertz/1).\n\
+        % line 19: error: error(permission_error(modify,static_procedure,callable/1),assertz/1).\n\
+        % line 20: error: error(permission_error(modify,static_procedure,write/1),assertz/1).\n\
+        % line 21: error: error(permission_error(modify,static_procedure,writeq/1),assertz/1).\n\
+        % line 22: error: error(permission_error(modify,static_procedure,write_canonical/1),assertz/1).\n\
+        % line 23: error: error(permission_error(modify,static_procedure,put_char/1),assertz/1).\n\
+        % line 24: error: error(permission_error(modify,static_procedure,asserta/1),assertz/1).\n\
+        % line 25: error: error(permission_error(modify,static_procedure,assertz/1),assertz/1).\n\
+        % line 26: error: error(permission_error(modify,static_procedure,retract/1),assertz/1).\n\
+        % line 27: error: error(permission_error(modify,static_procedure,retractall/1),assertz/1).\n\
+        % line 28: error: error(permission_error(modify,static_procedure,abolish/1),assertz/1).\n\
+        % line 29: error: error(permission_error(modify,static_procedure,(',')/2),assertz/1).\n\
+        % line 30: error: error(permission_error(modify,static_procedure,(;)/2),assertz/1).\n\
+        % line 31: error: error(permission_error(modify,static_procedure,(->)/2),assertz/1).\n\
+        % line 32: error: error(permission_error(modify,static_procedure,call/2),assertz/1).\n\
+        % line 33: error: error(permission_error(modify,static_procedure,(=)/2),assertz/1).\n\
+        % line 34: error: error(permission_error(modify,static_procedure,unify_with_occurs_check/2),assertz/1).\n\
+        % line 35: error: error(permission_error(modify,static_procedure,(\\=)/2),assertz/1).\n\
+        % line 36: error: error(permission_error(modify,static_procedure,(==)/2),assertz/1).\n\
+        % line 37: error: error(permission_error(modify,static_procedure,(\\==)/2),assertz/1).\n\
+        % line 38: error: error(permission_error(modify,static_procedure,(@<)/2),assertz/1).\n\
+        % line 39: error: error(permission_error(modify,static_procedure,(@=<)/2),assertz/1).\n\
+        % line 40: error: error(permission_error(modify,static_procedure,(@>)/2),assertz/1).\n\
+        % line 41: error: error(permission_error(modify,static_procedure,(@>=)/2),assertz/1).\n\
+        % line 42: error: error(permission_error(modify,static_procedure,(=..)/2),assertz/1).\n\
+        % line 43: error: error(permission_error(modify,static_procedure,copy_term/2),assertz/1).\n\
+        % line 44: error: error(permission_error(modify,static_procedure,atom_length/2),assertz/1).\n\
+        % line 45: error: error(permission_error(modify,static_procedure,atom_codes/2),assertz/1).\n\
+        % line 46: error: error(permission_error(modify,static_procedure,atom_chars/2),assertz/1).\n\
+        % line 47: error: error(permission_error(modify,static_procedure,char_code/2),assertz/1).\n\
+        % line 48: error: error(permission_error(modify,static_procedure,(is)/2),assertz/1).\n\
+        % line 49: error: error(permission_error(modify,static_procedure,(=:=)/2),assertz/1).\n\
+        % line 50: error: error(permission_error(modify,static_procedure,(=\\=)/2),assertz/1).\n\
+        % line 51: error: error(permission_error(modify,static_procedure,(<)/2),assertz/1).\n\
+        % line 52: error: error(permission_error(modify,static_procedure,(=<)/2),assertz/1).\n\
+        % line 53: error: error(permission_error(modify,static_procedure,(>)/2),assertz/1).\n\
+        % line 54: error: error(permission_error(modify,static_procedure,(>=)/2),assertz/1).\n\
+        % line 55: error: error(permission_error(modify,static_procedure,clause/2),assertz/1).\n\
+        % line 56: error: error(permission_error(modify,static_procedure,call/3),assertz/1).\n\
+        % line 57: error: error(permission_error(modify,static_procedure,catch/3),assertz/1).\n\
+        % line 58: error: error(permission_error(modify,static_procedure,findall/3),assertz/1).\n\
+        % line 59: error: error(permission_error(modify,static_procedure,compare/3),assertz/1).\n\
+        % line 60: error: error(permission_error(modify,static_procedure,functor/3),assertz/1).\n\
+        % line 61: error: error(permission_error(modify,static_procedure,arg/3),assertz/1).\n\
+        % line 62: error: error(permission_error(modify,static_procedure,call/4),assertz/1).\n\
+        % line 63: error: error(permission_error(modify,static_procedure,call/5),assertz/1).\n\
+        % line 64: error: error(permission_error(modify,static_procedure,call/6),assertz/1).\n\
+        % line 65: error: error(permission_error(modify,static_procedure,call/7),assertz/1).\n\
+        % line 66: error: error(permission_error(modify,static_procedure,call/8),assertz/1).\n",
+);
+
+// Balls, catches and halts.
+const CAUGHT: [Row; 48] = [
+    ("", &["throw((a:-b))"], 1, "% goal 1\nerror: a:-b.\n"),
+    ("", &["catch(fail, a, true)"], 0, "% goal 1\nfalse.\n"),
+    (
+        "",
+        &["--steps", "2", "catch(fail, a, true)"],
+        0,
+        "% goal 1\nfalse.\n",
+    ),
+    (
+        "",
+        &["--steps", "1", "catch(fail, a, true)"],
+        7,
+        "% goal 1\nstopped after 1 steps.\n",
+    ),
+    (
+        "",
+        &["catch((X = 1 ; fail), a, true)"],
+        0,
+        "% goal 1\nX = 1 ;\nfalse.\n",
+    ),
+    (
+        "",
+        &["catch(\\+ throw(a), a, true)"],
+        0,
+        "% goal 1\ntrue.\n",
+    ),
+    (
+        "",
+        &["catch((throw(a) -> true ; true), a, true)"],
+        0,
+        "% goal 1\ntrue.\n",
+    ),
+    (
+        "",
+        &["catch(once(throw(a)), a, true)"],
+        0,
+        "% goal 1\ntrue.\n",
+    ),
+    (
+        "",
+        &["(X = 1 ; X = 2), catch(throw(a), a, true), Y = b"],
+        0,
+        "% goal 1\nX = 1, Y = b ;\nX = 2, Y = b.\n",
+    ),
+    ("", &["catch(throw(1), X, true)"], 0, "% goal 1\nX = 1.\n"),
+    (
+        "",
+        &["(X = 1 ; X = 2), (! -> true)"],
+        0,
+        "% goal 1\nX = 1 ;\nX = 2.\n",
+    ),
+    (":- true.", &["--steps", "5"], 0, ""),
+    (
+        ":- true.",
+        &["--steps", "4"],
+        7,
+        "% line 1: stopped after 4 steps.\n",
+    ),
+    (":- repeat.", &[], 0, ""),
+    (
+        ":- throw(eq(a,b)).\n:- op(700,xfx,eq).",
+        &[],
+        1,
+        "% line 1: error: a eq b.\n",
+    ),
+    (
+        ":- initialization(halt(1)).\n:- initialization(throw(x)).",
+        &[],
+        1,
+        "% line 1: halted with 1.\n% line 2: error: x.\n",
+    ),
+    ("", &["catch(throw(b), C, true)"], 0, "% goal 1\nC = b.\n"),
+    (
+        "",
+        &["--steps", "4", "catch(throw(b), C, true)"],
+        0,
+        "% goal 1\nC = b.\n",
+    ),
+    (
+        "",
+        &["--steps", "3", "catch(throw(b), C, true)"],
+        7,
+        "% goal 1\nstopped after 3 steps.\n",
+    ),
+    (
+        "",
+        &["catch(true, C, true), throw(b)"],
+        1,
+        "% goal 1\nerror: b.\n",
+    ),
+    (
+        "",
+        &["catch((X = 1 ; X = 2), a, true), X = 2, throw(a)"],
+        1,
+        "% goal 1\nerror: a.\n",
+    ),
+    (
+        "p(1). p(2).",
+        &["catch(p(X), a, true), X = 2, throw(a)"],
+        1,
+        "% goal 1\nerror: a.\n",
+    ),
+    (
+        "",
+        &["catch((X = 1, throw(a)), Y, true)"],
+        0,
+        "% goal 1\nX = _1, Y = a.\n",
+    ),
+    (
+        "",
+        &["catch(catch(throw(a), b, true), a, X = 1)"],
+        0,
+        "% goal 1\nX = 1.\n",
+    ),
+    (
+        "",
+        &["catch(throw(a), X, throw(f(X)))"],
+        1,
+        "% goal 1\nerror: f(a).\n",
+    ),
+    (
+        "",
+        &["catch(catch(throw(a), Y, throw(b)), X, true)"],
+        0,
+        "% goal 1\nY = _1, X = b.\n",
+    ),
+    (
+        "",
+        &["catch(throw(f(X, Y)), f(A, a), true)"],
+        0,
+        "% goal 1\nX = _1, Y = _2, A = _3.\n",
+    ),
+    (
+        "",
+        &["catch(G, E, true)"],
+        0,
+        "% goal 1\nG = _1, E = error(instantiation_error,call/1).\n",
+    ),
+    (
+        "",
+        &["catch(1, E, true)"],
+        1,
+        "% goal 1\nerror: error(type_error(callable,1),catch/3).\n",
+    ),
+    (
+        "",
+        &["catch(nope, E, true)"],
+        0,
+        "% goal 1\nE = error(existence_error(procedure,nope/0),nope/0).\n",
+    ),
+    (
+        "",
+        &["catch(throw(a), a, R)"],
+        1,
+        "% goal 1\nerror: error(instantiation_error,call/1).\n",
+    ),
+    (
+        "",
+        &["(X = 1 ; X = 2), catch(!, b, true)"],
+        0,
+        "% goal 1\nX = 1 ;\nX = 2.\n",
+    ),
+    (
+        "",
+        &["\\+ catch(throw(a), X, fail)"],
+        0,
+        "% goal 1\nX = _1.\n",
+    ),
+    (
+        "p(X) :- q(X). q(1). q(X) :- throw(oops(X)).",
+        &["catch(p(X), E, true)"],
+        0,
+        "% goal 1\nX = 1, E = _1 ;\nX = _1, E = oops(_2).\n",
+    ),
+    (
+        "loop :- catch(true, X, true), loop.",
+        &["--steps", "1000", "loop"],
+        7,
+        "% goal 1\nstopped after 1000 steps.\n",
+    ),
+    (
+        "",
+        &["throw(G)"],
+        1,
+        "% goal 1\nerror: error(instantiation_error,throw/1).\n",
+    ),
+    (
+        "",
+        &["throw(f(X, Y, X))"],
+        1,
+        "% goal 1\nerror: f(_1,_2,_1).\n",
+    ),
+    ("", &["halt"], 0, "% goal 1\nhalted with 0.\n"),
+    ("", &["halt(3)"], 0, "% goal 1\nhalted with 3.\n"),
+    ("", &["halt(-3)"], 0, "% goal 1\nhalted with -3.\n"),
+    (
+        "",
+        &["catch(halt, E, true)"],
+        0,
+        "% goal 1\nhalted with 0.\n",
+    ),
+    (
+        "",
+        &["(X = 1 ; X = 2), halt"],
+        0,
+        "% goal 1\nhalted with 0.\n",
+    ),
+    (
+        "",
+        &["X = 1 ; halt(2)"],
+        0,
+        "% goal 1\nX = 1 ;\nhalted with 2.\n",
+    ),
+    (
+        "",
+        &["halt(X)"],
+        1,
+        "% goal 1\nerror: error(instantiation_error,halt/1).\n",
+    ),
+    (
+        "",
+        &["halt(f(X))"],
+        1,
+        "% goal 1\nerror: error(type_error(integer,f(_1)),halt/1).\n",
+    ),
+    (
+        ":- catch(throw(a), X, true).\n:- throw(b).\n:- halt(2).\np(1).",
+        &["p(X)"],
+        1,
+        "% line 2: error: b.\n% line 3: halted with 2.\n% goal 1\nX = 1.\n",
+    ),
+    (
+        ":- initialization(halt).\np(1).",
+        &["p(X)"],
+        0,
+        "% line 1: halted with 0.\n% goal 1\nX = 1.\n",
+    ),
+    (
+        ":- halt.\n:- throw(a).\np(",
+        &["p(X)"],
+        3,
+        "% line 1: halted with 0.\n% line 2: error: a.\nerror: line 3: fault 6.\n",
+    ),
+];
+
 // Values under the operators that there are from the start, worked out from the rules of the writer.
 const WRITTEN: [Row; 31] = [
     ("", &["X = 1 - (-1)"], 0, "% goal 1\nX = 1- -1.\n"),
@@ -1166,6 +1551,16 @@ fn answers_control_cut_short(rt: HostRuntime) {
 #[test]
 fn answers_what_is_raised(rt: HostRuntime) {
     expect_rows(&rt, rt.alloc(), &RAISED);
+}
+
+#[test]
+fn answers_what_is_reserved(rt: HostRuntime) {
+    expect_rows(&rt, rt.alloc(), &[RESERVED]);
+}
+
+#[test]
+fn answers_what_is_caught(rt: HostRuntime) {
+    expect_rows(&rt, rt.alloc(), &CAUGHT);
 }
 
 #[test]
@@ -1431,17 +1826,49 @@ fn a_text_that_is_too_long(rt: HostRuntime) {
 /// A gate that counts its passes, and keeps the engine and the look of the last one.
 #[derive(Drop)]
 struct CountingGate {
-    passes: Cell<u64>,
-    engine: Cell<u32>,
-    look: Cell<u64>,
+    passes: AtomicU64,
+    engine: AtomicU32,
+    look: AtomicU64,
 }
 
 impl Gate for CountingGate {
     fn pass<R: Wait>(&self, _rt: &R, engine: u32, look: u64) {
-        self.passes.set(self.passes.get().saturating_add(1));
-        self.engine.set(engine);
-        self.look.set(look);
+        self.passes.fetch_add(1, Ordering::SeqCst);
+        self.engine.store(engine, Ordering::SeqCst);
+        self.look.store(look, Ordering::SeqCst);
     }
+}
+
+/// How often the program passes its gate over this text and these words, and the engine that passed last.
+fn passes_of<R: Threads + Wait + Sync>(
+    rt: &R,
+    alloc: Global,
+    text: &[u8],
+    word: &[&str],
+) -> Result<(u64, u32), Want> {
+    let gate = CountingGate {
+        passes: AtomicU64::new(0),
+        engine: AtomicU32::new(9),
+        look: AtomicU64::new(0),
+    };
+    let mut source = SteadySource::new(Vec::from_slice(alloc, text)?, 7);
+    let mut sink = SteadySink::new(alloc, 100)?;
+    let mut words = Vec::new(alloc);
+    for word in word {
+        words.push(String::from_str(alloc, word)?)?;
+    }
+    let _outcome = top(rt, alloc, &words, SIZES, &mut source, &mut sink, &gate);
+    Ok((
+        gate.passes.load(Ordering::SeqCst),
+        gate.engine.load(Ordering::SeqCst),
+    ))
+}
+
+#[test]
+fn the_program_passes_its_gate(rt: HostRuntime) {
+    let text = b"p(a).\np(b).\n:- p(b).\n".as_slice();
+    assert_eq!(rt; passes_of(&rt, rt.alloc(), text, &[]), Ok((1, 0)));
+    assert_eq!(rt; passes_of(&rt, rt.alloc(), text, &["p(a)"]), Ok((2, 1)));
 }
 
 /// The text of the run of this word over two equal facts, in so many steps at most.
@@ -1490,14 +1917,14 @@ fn a_look_passes_the_gate(rt: HostRuntime) {
         ("p(a), p(a)", 3, 1),
     ] {
         let gate = CountingGate {
-            passes: Cell::new(0),
-            engine: Cell::new(0),
-            look: Cell::new(0),
+            passes: AtomicU64::new(0),
+            engine: AtomicU32::new(0),
+            look: AtomicU64::new(0),
         };
         let written = run_within(&rt, rt.alloc(), &gate, word, "10");
         assert!(rt; written.is_ok());
-        assert_eq!(rt; gate.passes.get(), passes, "{word}");
-        assert_eq!(rt; gate.look.get(), passes, "{word}");
-        assert_eq!(rt; gate.engine.get(), engine, "{word}");
+        assert_eq!(rt; gate.passes.load(Ordering::SeqCst), passes, "{word}");
+        assert_eq!(rt; gate.look.load(Ordering::SeqCst), passes, "{word}");
+        assert_eq!(rt; gate.engine.load(Ordering::SeqCst), engine, "{word}");
     }
 }

@@ -2,7 +2,7 @@
 
 use crate::texts::output;
 use journal_base::Tally;
-use prolog_terms::{Name, Node, OpKind, Ops, Shown, ShownVariables, Term, Want, Whole};
+use prolog_terms::{Name, Node, Ops, Shown, ShownVariables, Term, Want, Whole};
 use std::alloc::Global;
 use std::test::Fail;
 use wam_machine::{Event, Events, Fronts, Run, RunEnd};
@@ -77,17 +77,6 @@ fn run_of(alloc: Global, lefts: &[bool], end: RunEnd) -> Result<Run, Want> {
     run_with(alloc, &[], plain_answers(alloc, lefts)?, end)
 }
 
-// Whether this is the text of one run.
-fn has_text(alloc: Global, ops: &Ops, run: Run, line: &str) -> Result<bool, Want> {
-    let mut runs = Vec::new(alloc);
-    runs.push(run)?;
-    let text = output(alloc, ops, &runs)?;
-    let mut words = Vec::from_slice(alloc, b"% goal 1\n".as_slice())?;
-    words.extend_from_slice(line.as_bytes())?;
-    words.extend_from_slice(b".\n".as_slice())?;
-    Ok(text.as_slice() == words.as_slice())
-}
-
 // The run that shows X with this value.
 fn run_with_value(alloc: Global, value: &[Piece]) -> Result<Run, Want> {
     let mut values = Vec::new(alloc);
@@ -97,110 +86,6 @@ fn run_with_value(alloc: Global, value: &[Piece]) -> Result<Run, Want> {
     let mut events = Vec::new(alloc);
     events.push(answer(alloc, &values, false)?)?;
     run_with(alloc, &["X"], events, RunEnd::Exhausted)
-}
-
-// Whether this is the line of an answer with this value.
-fn shows(alloc: Global, ops: &Ops, value: &[Piece], line: &str) -> Result<bool, Want> {
-    has_text(alloc, ops, run_with_value(alloc, value)?, line)
-}
-
-// Whether this is the line of an end in this ball.
-fn raises(alloc: Global, ops: &Ops, ball: &[Piece], line: &str) -> Result<bool, Want> {
-    let none: [bool; 0] = [];
-    let end = RunEnd::Ball(term_of(alloc, ball)?);
-    has_text(alloc, ops, run_of(alloc, &none, end)?, line)
-}
-
-#[test]
-fn writes_values_with_operators(rt: HostRuntime) -> Result<(), Fail> {
-    let alloc = rt.alloc();
-    let ops = Ops::initial(alloc)?;
-    let clause = [Piece::Functor(":-", 2), Piece::Atom("a"), Piece::Atom("b")];
-    assert!(rt; shows(alloc, &ops, &clause, "X = (a:-b)")?);
-    let less = [Piece::Functor("-", 2), Piece::Int(1), Piece::Int(-1)];
-    assert!(rt; shows(alloc, &ops, &less, "X = 1- -1")?);
-    let negated = [Piece::Functor("-", 1), Piece::Int(1)];
-    assert!(rt; shows(alloc, &ops, &negated, "X = - 1")?);
-    let pair = [Piece::Functor(",", 2), Piece::Atom("a"), Piece::Atom("b")];
-    assert!(rt; shows(alloc, &ops, &pair, "X = (a,b)")?);
-    let word = [Piece::Functor("dynamic", 1), Piece::Atom("a")];
-    assert!(rt; shows(alloc, &ops, &word, "X = (dynamic a)")?);
-    Ok(())
-}
-
-#[test]
-fn writes_operators_inside_values(rt: HostRuntime) -> Result<(), Fail> {
-    let alloc = rt.alloc();
-    let ops = Ops::initial(alloc)?;
-    let pair = [
-        Piece::Functor("f", 1),
-        Piece::Functor(",", 2),
-        Piece::Atom("a"),
-        Piece::Atom("b"),
-    ];
-    assert!(rt; shows(alloc, &ops, &pair, "X = f((a,b))")?);
-    let argument = [Piece::Functor("f", 1), Piece::Atom(":-")];
-    assert!(rt; shows(alloc, &ops, &argument, "X = f(:-)")?);
-    let element = [Piece::Functor(".", 2), Piece::Atom("-"), Piece::Atom("[]")];
-    assert!(rt; shows(alloc, &ops, &element, "X = [-]")?);
-    let operand = [Piece::Functor("-", 1), Piece::Atom("-")];
-    assert!(rt; shows(alloc, &ops, &operand, "X = - (-)")?);
-    Ok(())
-}
-
-#[test]
-fn writes_values_in_brackets_and_quotes(rt: HostRuntime) -> Result<(), Fail> {
-    let alloc = rt.alloc();
-    let ops = Ops::initial(alloc)?;
-    let partial = [Piece::Functor(".", 2), Piece::Atom("a"), Piece::Atom("b")];
-    assert!(rt; shows(alloc, &ops, &partial, "X = [a|b]")?);
-    assert!(rt; shows(alloc, &ops, &[Piece::Atom("it's")], "X = 'it\\'s'")?);
-    let braces = [Piece::Functor("{}", 1), Piece::Atom("a")];
-    assert!(rt; shows(alloc, &ops, &braces, "X = {a}")?);
-    let brackets = [Piece::Functor("[]", 1), Piece::Atom("a")];
-    assert!(rt; shows(alloc, &ops, &brackets, "X = '[]'(a)")?);
-    Ok(())
-}
-
-const NOT_CALLABLE: [Piece; 9] = [
-    Piece::Functor("error", 2),
-    Piece::Functor("type_error", 2),
-    Piece::Atom("callable"),
-    Piece::Functor(",", 2),
-    Piece::Atom("foo"),
-    Piece::Int(1),
-    Piece::Functor("/", 2),
-    Piece::Atom("call"),
-    Piece::Int(1),
-];
-
-#[test]
-fn writes_balls(rt: HostRuntime) -> Result<(), Fail> {
-    let alloc = rt.alloc();
-    let ops = Ops::initial(alloc)?;
-    let line = "error: error(type_error(callable,(foo,1)),call/1)";
-    assert!(rt; raises(alloc, &ops, &NOT_CALLABLE, line)?);
-    let clause = [Piece::Functor(":-", 2), Piece::Atom("a"), Piece::Atom("b")];
-    assert!(rt; raises(alloc, &ops, &clause, "error: a:-b")?);
-    Ok(())
-}
-
-const LIKES: [Piece; 3] = [
-    Piece::Functor("likes", 2),
-    Piece::Atom("a"),
-    Piece::Atom("b"),
-];
-
-#[test]
-fn writes_under_the_table(rt: HostRuntime) -> Result<(), Fail> {
-    let alloc = rt.alloc();
-    let mut ops = Ops::initial(alloc)?;
-    assert!(rt; shows(alloc, &ops, &LIKES, "X = likes(a,b)")?);
-    let name = Name::of(alloc, b"likes")?;
-    ops.declare(700, OpKind::Xfx, &name).map_err(|_| Want)?;
-    assert!(rt; shows(alloc, &ops, &LIKES, "X = (a likes b)")?);
-    assert!(rt; raises(alloc, &ops, &LIKES, "error: a likes b")?);
-    Ok(())
 }
 
 #[test]
@@ -239,6 +124,7 @@ fn writes_runs(rt: HostRuntime) -> Result<(), Fail> {
     runs.push(run_of(alloc, &[true, true], RunEnd::Exhausted)?)?;
     runs.push(run_of(alloc, &[true], RunEnd::Ball(ball))?)?;
     runs.push(run_of(alloc, &none, RunEnd::Spent(7))?)?;
+    runs.push(run_of(alloc, &[true], RunEnd::Halted(-2))?)?;
     runs.push(run_of(alloc, &[false], RunEnd::Want)?)?;
     let text = output(alloc, &ops, &runs)?;
     let words = "% goal 1\nfalse.\n\
@@ -246,7 +132,8 @@ fn writes_runs(rt: HostRuntime) -> Result<(), Fail> {
         % goal 3\ntrue ;\ntrue ;\nfalse.\n\
         % goal 4\ntrue ;\nerror: oops(_2).\n\
         % goal 5\nstopped after 7 steps.\n\
-        % goal 6\ntrue.\n";
+        % goal 6\ntrue ;\nhalted with -2.\n\
+        % goal 7\ntrue.\n";
     assert!(rt; text.as_slice() == words.as_bytes());
     Ok(())
 }

@@ -1,7 +1,7 @@
 // What the program writes.
 ghost use Rattle.std.specs.Prelude.{◌≡◌, ◌≤◌, ◌++◌, List, filter, OnOk, IfOk, length};
 ghost use Rattle.std.specs.List.{list_any};
-ghost use Rattle.prolog_terms.specs.Tree.{Tree, HasArities};
+ghost use Rattle.prolog_terms.specs.Tree.{Tree, integer, HasArities};
 ghost use Rattle.prolog_terms.specs.Flat.{nodes as nodes_of};
 ghost use Rattle.prolog_writer.specs.Shapes.{is_cell};
 ghost use Rattle.prolog_writer.specs.Pieces.{written};
@@ -12,7 +12,7 @@ ghost use Rattle.prolog_session.specs.Output.{elements, value_text, further_text
 
 use crate::putting::{put, put_number};
 use crate::refusal::{Refusal, put_refusal};
-use prolog_terms::{Name, Node, Ops, Shown, Term, Want};
+use prolog_terms::{Name, Node, Ops, Shown, Term, Want, Whole};
 use prolog_writer::{Style, write_front};
 use std::alloc::Global;
 use wam_machine::{Event, Run, RunEnd};
@@ -159,6 +159,15 @@ fn put_ball(text: &mut Vec<u8>, alloc: Global, ops: &Ops, ball: &Term) -> Result
     Ok(())
 }
 
+fn put_code(text: &mut Vec<u8>, alloc: Global, ops: &Ops, code: &Whole) -> Result<(), Want>
+    ensures { OnOk result (text.new.items ≡ text.old.items ++ written ops.now Quoted 1200 (integer code.now)) }
+{
+    let mut nodes = Vec::new(alloc);
+    nodes.push(Node::Int(*code))?;
+    write_front(alloc, text, &nodes, ops, Style::Quoted, BALL_PRIORITY)?;
+    Ok(())
+}
+
 fn put_end(
     text: &mut Vec<u8>,
     alloc: Global,
@@ -184,6 +193,11 @@ fn put_end(
             put(text, "stopped after ")?;
             put_number(text, u128::from(*steps))?;
             put(text, " steps.\n")
+        }
+        RunEnd::Halted(code) => {
+            put(text, "halted with ")?;
+            put_code(text, alloc, ops, code)?;
+            put(text, ".\n")
         }
         RunEnd::Want => Ok(()),
     }
@@ -232,7 +246,7 @@ fn has_answered(events: &[Event], end: &RunEnd) -> bool
 {
     match end {
         RunEnd::Exhausted => some_answer(events),
-        RunEnd::Ball(_) | RunEnd::Spent(_) | RunEnd::Want => false,
+        RunEnd::Ball(_) | RunEnd::Spent(_) | RunEnd::Halted(_) | RunEnd::Want => false,
     }
 }
 

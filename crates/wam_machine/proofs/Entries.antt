@@ -42,7 +42,7 @@ module _ {C : Type 0} (t : Terms C) (more : List (List ℕ)) (f u : Shape) (vars
   pub grows-put : Grows t.names more t.store u
   grows-put = record { formed = p.formed; named = p.terms.named; later = later-further t.store f u later-fresh p.later; longer = p.longer }
 
-  bindings-put : u.bindings ≡ t.store.bindings
+  pub bindings-put : u.bindings ≡ t.store.bindings
   bindings-put = p.bindings ∙ ap (λ (s : Shape). s.bindings) p.fresh
 
   pub meaning-put : meaning more u ≡ meaning t.names t.store
@@ -64,7 +64,7 @@ module _ {C : Type 0} (t : Terms C) (more : List (List ℕ)) (f u : Shape) (vars
   free-put : (v : ℕ) → t.store.variables ≤ v → meaning t.names t.store v ≡ variable v
   free-put v le = free-meaning t.store t.names v (new-free t.store v p.formed le)
 
-  head-term : (head : Cell) (from : ℕ) (tree : Tree) → from ≡ t.store.variables → raw more u head ≡ renamed from tree
+  pub head-term : (head : Cell) (from : ℕ) (tree : Tree) → from ≡ t.store.variables → raw more u head ≡ renamed from tree
       → term_of more u head ≡ renamed (said t).fresh tree
   unfolding said
   head-term head from tree e r =

@@ -5,13 +5,13 @@ use Rattle.prolog_terms.specs.Tree.{Tree, variable, atom, compound}
 use Rattle.journal_base.specs.Journal.{Journal}
 use Rattle.wam_machine.specs.declared.run.Event.{Event}
 use Rattle.wam_machine.specs.declared.run.RunEnd.{RunEnd}
-use Rattle.wam_machine.specs.declared.run.RunEnd.TheVariants.{Exhausted, Ball, Spent}
-use Rattle.prolog_terms.specs.declared.fault.Fault.TheVariants.{Existence, Instantiation, Representation}
-use Rattle.std.specs.Prelude.{codes}
+use Rattle.wam_machine.specs.declared.run.RunEnd.TheVariants.{Exhausted, Ball, Spent, Halted}
+use Rattle.prolog_terms.specs.declared.fault.Fault.TheVariants.{Existence, Instantiation, OfType, Representation}
+use Rattle.std.specs.Prelude.{codes, pos}
 use Rattle.term_unifier.specs.Unifier.{unifier}
 use Rattle.journal_base.specs.Keys.{keys, could_match}
 use Rattle.wam_machine.specs.Machine.{Setting, State, Report, Outcome, Goes, Ends, Unfit, Runs, ends, goes, move, beginning, Transcript}
-use Rattle.wam_machine.specs.Rows.{Gives, Alone, HasRows, a, a_cut, a_loop, a_rule, any_between, b, both, c, call, called, closed, copied_number, copies, cut, denied, equal, failure, is_free, is_one, is_two, list_of, mem, members, number, on, once, one, one_and_more, one_or_two, one_pair, opened, or, p, repeats, then, three_facts, trees, truth, uncallable, x}
+use Rattle.wam_machine.specs.Rows.{Gives, Alone, HasRows, catches, throws, halts, halts_with, catch_three, throw_one, halt_one, a, a_cut, a_loop, a_rule, any_between, b, both, c, call, called, closed, copied_number, copies, cut, denied, equal, failure, is_free, is_one, is_two, list_of, mem, members, number, on, once, one, one_and_more, one_or_two, one_pair, opened, or, p, repeats, then, three_facts, trees, truth, uncallable, x}
 
 -- what a run gives within so many moves
 abbrev run_within : ℕ → Setting → State → Option Report
@@ -314,6 +314,122 @@ row_repeat_answers : Gives [] 3 repeats [] [] (opened [] ∷ opened [] ∷ opene
 unfolding unifier keys could_match error_tree fault_tree
 row_repeat_answers = gives 60 [] 3 repeats [] [] (opened [] ∷ opened [] ∷ opened [] ∷ []) 3 (Spent 3) refl
 
+row_catch_b : Alone (catches (throws b) x truth) (closed (b ∷ []) ∷ []) 4 Exhausted
+unfolding unifier keys could_match error_tree fault_tree
+row_catch_b = gives 60 [] 100 (catches (throws b) x truth) (x ∷ []) [] (closed (b ∷ []) ∷ []) 4 Exhausted refl
+
+row_catch_spent : Gives [] 3 (catches (throws b) x truth) (x ∷ []) [] [] 3 (Spent 3)
+unfolding unifier keys could_match error_tree fault_tree
+row_catch_spent = gives 60 [] 3 (catches (throws b) x truth) (x ∷ []) [] [] 3 (Spent 3) refl
+
+row_catch_left : Alone (both (catches truth x truth) (throws b)) [] 3 (Ball b)
+unfolding unifier keys could_match error_tree fault_tree
+row_catch_left = gives 60 [] 100 (both (catches truth x truth) (throws b)) (x ∷ []) [] [] 3 (Ball b) refl
+
+row_catch_exited : Alone (both (catches one_or_two a truth) (both (equal x (number 2)) (throws a))) [] 8 (Ball a)
+unfolding unifier keys could_match error_tree fault_tree
+row_catch_exited = gives 60 [] 100 (both (catches one_or_two a truth) (both (equal x (number 2)) (throws a))) (x ∷ []) [] [] 8 (Ball a) refl
+
+row_catch_undone : Alone (catches (both (equal x (number 1)) (throws a)) (variable 5) truth) (is_free ∷ []) 5 Exhausted
+unfolding unifier keys could_match error_tree fault_tree
+row_catch_undone = gives 60 [] 100 (catches (both (equal x (number 1)) (throws a)) (variable 5) truth) (x ∷ []) [] (is_free ∷ []) 5 Exhausted refl
+
+row_catch_outer : Alone (catches (catches (throws a) b truth) a (equal x (number 1))) (is_one ∷ []) 5 Exhausted
+unfolding unifier keys could_match error_tree fault_tree
+row_catch_outer = gives 60 [] 100 (catches (catches (throws a) b truth) a (equal x (number 1))) (x ∷ []) [] (is_one ∷ []) 5 Exhausted refl
+
+row_catch_recovery : Alone (catches (throws a) x (throws b)) [] 4 (Ball b)
+unfolding unifier keys could_match error_tree fault_tree
+row_catch_recovery = gives 60 [] 100 (catches (throws a) x (throws b)) (x ∷ []) [] [] 4 (Ball b) refl
+
+row_catch_rethrown : Alone (catches (catches (throws a) (variable 1) (throws b)) x truth) (closed (b ∷ []) ∷ []) 7 Exhausted
+unfolding unifier keys could_match error_tree fault_tree
+row_catch_rethrown = gives 60 [] 100 (catches (catches (throws a) (variable 1) (throws b)) x truth) (x ∷ []) [] (closed (b ∷ []) ∷ []) 7 Exhausted refl
+
+row_catch_error : Gives [] 100 (catches (call (x ∷ a ∷ [])) (one (codes "f") x) truth) [] [] [] 2 (Ball (fault_tree Instantiation (called 2)))
+unfolding unifier keys could_match error_tree fault_tree
+row_catch_error = gives 60 [] 100 (catches (call (x ∷ a ∷ [])) (one (codes "f") x) truth) [] [] [] 2 (Ball (fault_tree Instantiation (called 2))) refl
+
+row_catch_copy : Gives [] 100 (catches (throws (one (codes "f") x)) (one (codes "f") (variable 1)) (equal (variable 1) a)) (x ∷ variable 1 ∷ []) [] (closed (variable 0 ∷ a ∷ []) ∷ []) 4 Exhausted
+unfolding unifier keys could_match error_tree fault_tree
+row_catch_copy = gives 60 [] 100 (catches (throws (one (codes "f") x)) (one (codes "f") (variable 1)) (equal (variable 1) a)) (x ∷ variable 1 ∷ []) [] (closed (variable 0 ∷ a ∷ []) ∷ []) 4 Exhausted refl
+
+row_cut_in_catch : Alone (both one_or_two (catches cut b truth)) (one_and_more ∷ is_two ∷ []) 8 Exhausted
+unfolding unifier keys could_match error_tree fault_tree
+row_cut_in_catch = gives 60 [] 100 (both one_or_two (catches cut b truth)) (x ∷ []) [] (one_and_more ∷ is_two ∷ []) 8 Exhausted refl
+
+row_catch_integer : Alone (catches (number 1) x truth) [] 1 (uncallable (number 1) catch_three)
+unfolding unifier keys could_match error_tree fault_tree
+row_catch_integer = gives 60 [] 100 (catches (number 1) x truth) (x ∷ []) [] [] 1 (uncallable (number 1) catch_three) refl
+
+row_catch_unbound : Alone (catches x (variable 1) truth) (is_free ∷ []) 4 Exhausted
+unfolding unifier keys could_match error_tree fault_tree
+row_catch_unbound = gives 60 [] 100 (catches x (variable 1) truth) (x ∷ []) [] (is_free ∷ []) 4 Exhausted refl
+
+row_catch_in_denied : Alone (denied (catches (throws a) (variable 1) failure)) (is_free ∷ []) 5 Exhausted
+unfolding unifier keys could_match error_tree fault_tree
+row_catch_in_denied = gives 60 [] 100 (denied (catches (throws a) (variable 1) failure)) (x ∷ []) [] (is_free ∷ []) 5 Exhausted refl
+
+row_throw_unbound : Alone (throws x) [] 1 (Ball (fault_tree Instantiation throw_one))
+unfolding unifier keys could_match error_tree fault_tree
+row_throw_unbound = gives 60 [] 100 (throws x) (x ∷ []) [] [] 1 (Ball (fault_tree Instantiation throw_one)) refl
+
+row_halted : Alone (both one_or_two halts) [] 3 (Halted (pos 0))
+unfolding unifier keys could_match error_tree fault_tree
+row_halted = gives 60 [] 100 (both one_or_two halts) (x ∷ []) [] [] 3 (Halted (pos 0)) refl
+
+row_halted_with : Alone (halts_with (number 3)) [] 1 (Halted (pos 3))
+unfolding unifier keys could_match error_tree fault_tree
+row_halted_with = gives 60 [] 100 (halts_with (number 3)) (x ∷ []) [] [] 1 (Halted (pos 3)) refl
+
+row_halted_in_catch : Alone (catches (halts_with (number 3)) x truth) [] 2 (Halted (pos 3))
+unfolding unifier keys could_match error_tree fault_tree
+row_halted_in_catch = gives 60 [] 100 (catches (halts_with (number 3)) x truth) (x ∷ []) [] [] 2 (Halted (pos 3)) refl
+
+row_halt_unbound : Alone (halts_with x) [] 1 (Ball (fault_tree Instantiation halt_one))
+unfolding unifier keys could_match error_tree fault_tree
+row_halt_unbound = gives 60 [] 100 (halts_with x) (x ∷ []) [] [] 1 (Ball (fault_tree Instantiation halt_one)) refl
+
+row_halt_atom : Alone (halts_with a) [] 1 (Ball (fault_tree (OfType (codes "integer") a) halt_one))
+unfolding unifier keys could_match error_tree fault_tree
+row_halt_atom = gives 60 [] 100 (halts_with a) (x ∷ []) [] [] 1 (Ball (fault_tree (OfType (codes "integer") a) halt_one)) refl
+
+row_cut_in_lone_condition : Alone (both one_or_two (then cut truth)) (one_and_more ∷ is_two ∷ []) 10 Exhausted
+unfolding unifier keys could_match error_tree fault_tree
+row_cut_in_lone_condition = gives 60 [] 100 (both one_or_two (then cut truth)) (x ∷ []) [] (one_and_more ∷ is_two ∷ []) 10 Exhausted refl
+
+row_most_arguments : Gives [] 100 (call (compound (codes "f") (trees (copies 254 a)) ∷ a ∷ [])) [] (0 ∷ []) [] 2 (Ball (fault_tree (Existence (record { name = codes "f"; arity = 255 })) (record { name = codes "f"; arity = 255 })))
+unfolding unifier keys could_match error_tree fault_tree
+row_most_arguments = gives 60 [] 100 (call (compound (codes "f") (trees (copies 254 a)) ∷ a ∷ [])) [] (0 ∷ []) [] 2 (Ball (fault_tree (Existence (record { name = codes "f"; arity = 255 })) (record { name = codes "f"; arity = 255 }))) refl
+
+row_catch_failing : Alone (catches failure a truth) [] 2 Exhausted
+unfolding unifier keys could_match error_tree fault_tree
+row_catch_failing = gives 60 [] 100 (catches failure a truth) (x ∷ []) [] [] 2 Exhausted refl
+
+row_catch_failing_later : Alone (catches (or (equal x (number 1)) failure) a truth) (one_and_more ∷ []) 5 Exhausted
+unfolding unifier keys could_match error_tree fault_tree
+row_catch_failing_later = gives 60 [] 100 (catches (or (equal x (number 1)) failure) a truth) (x ∷ []) [] (one_and_more ∷ []) 5 Exhausted refl
+
+row_catch_out_of_denied : Alone (catches (denied (throws a)) a truth) (is_free ∷ []) 5 Exhausted
+unfolding unifier keys could_match error_tree fault_tree
+row_catch_out_of_denied = gives 60 [] 100 (catches (denied (throws a)) a truth) (x ∷ []) [] (is_free ∷ []) 5 Exhausted refl
+
+row_catch_out_of_condition : Alone (catches (or (then (throws a) truth) truth) a truth) (is_free ∷ []) 5 Exhausted
+unfolding unifier keys could_match error_tree fault_tree
+row_catch_out_of_condition = gives 60 [] 100 (catches (or (then (throws a) truth) truth) a truth) (x ∷ []) [] (is_free ∷ []) 5 Exhausted refl
+
+row_catch_out_of_once : Alone (catches (once (throws a)) a truth) (is_free ∷ []) 7 Exhausted
+unfolding unifier keys could_match error_tree fault_tree
+row_catch_out_of_once = gives 60 [] 100 (catches (once (throws a)) a truth) (x ∷ []) [] (is_free ∷ []) 7 Exhausted refl
+
+row_catch_goes_on : Alone (both one_or_two (catches (throws a) a truth)) (one_and_more ∷ is_two ∷ []) 12 Exhausted
+unfolding unifier keys could_match error_tree fault_tree
+row_catch_goes_on = gives 60 [] 100 (both one_or_two (catches (throws a) a truth)) (x ∷ []) [] (one_and_more ∷ is_two ∷ []) 12 Exhausted refl
+
+row_catch_number : Alone (catches (throws (number 1)) x truth) (is_one ∷ []) 4 Exhausted
+unfolding unifier keys could_match error_tree fault_tree
+row_catch_number = gives 60 [] 100 (catches (throws (number 1)) x truth) (x ∷ []) [] (is_one ∷ []) 4 Exhausted refl
+
 pub has_rows : HasRows
 has_rows = record {
   true_goal = row_true_goal;
@@ -382,4 +498,33 @@ has_rows = record {
   cut_after_repeat = row_cut_after_repeat;
   repeat_spent = row_repeat_spent;
   repeat_answers = row_repeat_answers;
+  catch_b = row_catch_b;
+  catch_spent = row_catch_spent;
+  catch_left = row_catch_left;
+  catch_exited = row_catch_exited;
+  catch_undone = row_catch_undone;
+  catch_outer = row_catch_outer;
+  catch_recovery = row_catch_recovery;
+  catch_rethrown = row_catch_rethrown;
+  catch_error = row_catch_error;
+  catch_copy = row_catch_copy;
+  cut_in_catch = row_cut_in_catch;
+  catch_integer = row_catch_integer;
+  catch_unbound = row_catch_unbound;
+  catch_in_denied = row_catch_in_denied;
+  throw_unbound = row_throw_unbound;
+  halted = row_halted;
+  halted_with = row_halted_with;
+  halted_in_catch = row_halted_in_catch;
+  halt_unbound = row_halt_unbound;
+  halt_atom = row_halt_atom;
+  cut_in_lone_condition = row_cut_in_lone_condition;
+  most_arguments = row_most_arguments;
+  catch_failing = row_catch_failing;
+  catch_failing_later = row_catch_failing_later;
+  catch_out_of_denied = row_catch_out_of_denied;
+  catch_out_of_condition = row_catch_out_of_condition;
+  catch_out_of_once = row_catch_out_of_once;
+  catch_goes_on = row_catch_goes_on;
+  catch_number = row_catch_number;
 }

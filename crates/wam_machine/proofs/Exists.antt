@@ -1,9 +1,9 @@
 -- Each goal has a run.
 use Rattle.std.proofs.Common.{◌≡◌, ℕ, zero, suc, ◌+◌, ◌-◌, ◌<◌, ◌≤◌, ◌⊎◌, List, [], ◌∷◌, ◌++◌, Bool, true, false, length, take, replicate, map, refl, sym, ◌∙◌, subst, arith, inl, inr}
-use Rattle.std.specs.Prelude.{All, Option, Some, None, ◌==◌, ◌&&◌, if◌then◌else◌, nat_le, nat_lt, codes}
+use Rattle.std.specs.Prelude.{pos, All, Option, Some, None, ◌==◌, ◌&&◌, if◌then◌else◌, nat_le, nat_lt, codes}
 use Rattle.std.proofs.lemmas.List.Elements.{All-head}
 use Rattle.prolog_terms.specs.Tree.{Tree, Trees, variable, integer, atom, compound, count}
-use Rattle.prolog_terms.specs.Substitutions.{renamed, substituted}
+use Rattle.prolog_terms.specs.Substitutions.{renamed, substituted, numbered, beyond}
 use Rattle.prolog_terms.specs.Faults.{two, fault_tree}
 use Rattle.std.proofs.lemmas.Bool.{le-leb}
 use Rattle.prolog_terms.specs.declared.entry.Clause.{Clause}
@@ -13,10 +13,10 @@ use Rattle.journal_base.specs.Journal.{Journal, number_of}
 use Rattle.journal_base.specs.Keys.{keys}
 use Rattle.term_unifier.specs.Unifier.{unifier}
 use Rattle.wam_machine.specs.declared.run.RunEnd.{RunEnd}
-use Rattle.wam_machine.specs.declared.run.RunEnd.TheVariants.{Exhausted, Ball, Spent}
+use Rattle.wam_machine.specs.declared.run.RunEnd.TheVariants.{Exhausted, Ball, Spent, Halted}
 use Rattle.prolog_terms.specs.Clauses.{body_of, call_term}
-use Rattle.wam_machine.specs.Control.{Control, True, Fail, Cut, Repeat, Both, Either, IfElse, If, Not, Call, Once, Equal, User, control_of, with_added}
-use Rattle.wam_machine.specs.Machine.{Next, Do, ConditionEnd, NotEnd, Alternative, Clauses, Right, Again, NotMark, Choice, Mode, Going, Failing, Raising, State, Setting, Report, Outcome, Goes, Ends, Unfit, made_all, over, stepping, onwards, pushed, height, cut_to, not_callable, answer, next_under, solving, numbering, body_from, leaving, trying, candidate_clauses, looked, called, calling, call_with, raises, running, calling_added, denying, repeating, performing, doing, goal_move, going, back_to, taken, failing, raising, move, beginning, Runs, ends, goes, Misfits, unfit, later, Transcript, EachGoalRuns, CanBeDone, IsWellMade, HasBodies}
+use Rattle.wam_machine.specs.Control.{Control, True, Fail, Cut, Repeat, Both, Either, IfElse, If, Not, Call, Once, Catch, Throw, Halt, HaltWith, Equal, User, control_of, with_added}
+use Rattle.wam_machine.specs.Machine.{Next, Do, ConditionEnd, NotEnd, CatchEnd, Alternative, Clauses, Right, Again, NotMark, CatchMark, Choice, Mode, Going, Failing, Raising, State, Setting, Report, Outcome, Goes, Ends, Unfit, made_all, over, stepping, onwards, pushed, height, cut_to, not_callable, answer, next_under, solving, numbering, body_from, leaving, trying, candidate_clauses, looked, called, calling, call_with, raises, running, calling_added, denying, catching, throwing, halting, halt_with, not_integer, cut_back, active_catch, recovering, reaching, reached, caught, repeating, performing, doing, goal_move, going, back_to, taken, failing, raising, move, beginning, Runs, ends, goes, Misfits, unfit, later, Transcript, EachGoalRuns, CanBeDone, IsWellMade, HasBodies}
 use Rattle.wam_machine.proofs.WellMade.{HasParts, parts, goes-makes, begins-well}
 use Rattle.wam_machine.proofs.Laws.{Within, move-within}
 use Rattle.wam_machine.proofs.Settles.{has_transcript}
@@ -70,6 +70,18 @@ unfolding at
 denying-on goal s None = record { next = record s { mode = Raising (fault_tree (not_callable goal) (record { name = codes "\\+"; arity = 1 })) }; goes_on = λ fs. refl; front_is = refl; steps_is = refl }
 denying-on goal s (Some b) = record { next = record (pushed NotMark s) { goals = Do b (suc (height s)) ∷ NotEnd (height s) ∷ s.goals }; goes_on = λ fs. refl; front_is = refl; steps_is = refl }
 
+catching-on : (goal catcher recovery : Tree) (s : State) (o : Option Tree) → On s (λ fs. catching goal catcher recovery (at s fs) o)
+unfolding at
+catching-on goal catcher recovery s None = record { next = record s { mode = Raising (fault_tree (not_callable goal) (record { name = codes "catch"; arity = 3 })) }; goes_on = λ fs. refl; front_is = refl; steps_is = refl }
+catching-on goal catcher recovery s (Some b) = record { next = record (pushed (CatchMark catcher recovery) s) { goals = Do b (suc (height s)) ∷ CatchEnd (suc (height s)) ∷ s.goals }; goes_on = λ fs. refl; front_is = refl; steps_is = refl }
+
+throwing-on : (ball : Tree) (s : State) → On s (λ fs. throwing ball (at s fs))
+unfolding at
+throwing-on (variable n) s = record { next = record s { mode = Raising (fault_tree Instantiation (record { name = codes "throw"; arity = 1 })) }; goes_on = λ fs. refl; front_is = refl; steps_is = refl }
+throwing-on (integer z) s = record { next = record s { mode = Raising (numbered (integer z)) }; goes_on = λ fs. refl; front_is = refl; steps_is = refl }
+throwing-on (atom a) s = record { next = record s { mode = Raising (numbered (atom a)) }; goes_on = λ fs. refl; front_is = refl; steps_is = refl }
+throwing-on (compound f ts) s = record { next = record s { mode = Raising (numbered (compound f ts)) }; goes_on = λ fs. refl; front_is = refl; steps_is = refl }
+
 calling_added-on : (goal : Tree) (added : Trees) (s : State) → On s (λ fs. calling_added goal added (at s fs))
 unfolding at
 calling_added-on (variable n) added s = record { next = record s { mode = Raising (fault_tree Instantiation (call_with added)) }; goes_on = λ fs. refl; front_is = refl; steps_is = refl }
@@ -100,6 +112,22 @@ module _ (x : Setting) (made : made_all x ≡ true) where
       go false =
           let h : On (record s { steps = suc s.steps }) (λ fs. then_ (record s { steps = suc s.steps; fronts = fs })) = k (record s { steps = suc s.steps }) in
           stays h.next h.goes_on (subst (λ n. n ≤ f) (sym h.front_is) le) (subst (λ n. s.steps ≤ n) (sym h.steps_is) (omega arith))
+
+  -- a step, and then the run's end
+  stepped-over : (f : ℕ) (s : State) (e : RunEnd) (then_ : State → Outcome) → ((t : State) → then_ t ≡ over x t e) → Kind f x.budget s (λ fs. stepping x (at s fs) then_)
+  unfolding at
+  stepped-over f s e then_ k = go (s.steps == x.budget)
+    where
+      go : (b : Bool) → Kind f x.budget s (λ fs. if b then over x (at s fs) (Spent s.steps) else then_ (record s { steps = suc s.steps; fronts = fs }))
+      go true = over-kind f s s (Spent s.steps)
+      go false = let h = over-closes (record s { steps = suc s.steps }) e in closes h.0 (k (record s { steps = suc s.steps; fronts = [] }) ∙ h.1)
+
+  halting-kind : (f : ℕ) (code : Tree) (s : State) → s.front ≤ f → Kind f x.budget s (λ fs. stepping x (at s fs) (λ t. halting x code t))
+  unfolding at
+  halting-kind f (variable n) s le = stepped-on f s (λ t. halting x (variable n) t) le (λ t. record { next = record t { mode = Raising (fault_tree Instantiation halt_with) }; goes_on = λ fs. refl; front_is = refl; steps_is = refl })
+  halting-kind f (integer z) s le = stepped-over f s (Halted z) (λ t. halting x (integer z) t) (λ t. refl)
+  halting-kind f (atom a) s le = stepped-on f s (λ t. halting x (atom a) t) le (λ t. record { next = record t { mode = Raising (fault_tree (not_integer (atom a)) halt_with) }; goes_on = λ fs. refl; front_is = refl; steps_is = refl })
+  halting-kind f (compound g ts) s le = stepped-on f s (λ t. halting x (compound g ts) t) le (λ t. record { next = record t { mode = Raising (fault_tree (not_integer (compound g ts)) halt_with) }; goes_on = λ fs. refl; front_is = refl; steps_is = refl })
 
   -- a call takes the journal's length
   called-kind : (s : State) (goal : Tree) (i : Indicator) → s.front ≤ length x.journal → Kind (length x.journal) x.budget s (λ fs. stepping x (at s fs) (λ t. calling x t goal i))
@@ -134,6 +162,10 @@ module _ (x : Setting) (made : made_all x ≡ true) where
   doing-kind goal cut s (Both l r) le = stays (record s { goals = Do l cut ∷ Do r cut ∷ s.goals }) (λ fs. refl) le (omega arith)
   doing-kind goal cut s (Not g) le = stepped-on (length x.journal) s (performing x goal cut (Not g)) le (λ t. denying-on g t (body_of g))
   doing-kind goal cut s (Call g added) le = stepped-on (length x.journal) s (performing x goal cut (Call g added)) le (λ t. calling_added-on g added t)
+  doing-kind goal cut s (Catch g c r) le = stepped-on (length x.journal) s (performing x goal cut (Catch g c r)) le (λ t. catching-on g c r t (body_of g))
+  doing-kind goal cut s (Throw b) le = stepped-on (length x.journal) s (performing x goal cut (Throw b)) le (λ t. throwing-on b t)
+  doing-kind goal cut s Halt le = stepped-over (length x.journal) s (Halted (pos 0)) (performing x goal cut Halt) (λ t. refl)
+  doing-kind goal cut s (HaltWith n) le = halting-kind (length x.journal) n s le
   doing-kind goal cut s (Equal l r) le = stepped-on (length x.journal) s (performing x goal cut (Equal l r)) le (λ t. solving-on [] t (unifier l r))
   doing-kind goal cut s (User i) le = called-kind s goal i le
 
@@ -151,6 +183,11 @@ module _ (x : Setting) (made : made_all x ≡ true) where
       moved (closes r h) = closes r h
   going-kind s (ConditionEnd h ∷ rest) d le = stays (record s { goals = rest; stack = cut_to h s.stack }) (λ fs. refl) le (omega arith)
   going-kind s (NotEnd h ∷ rest) d le = stays (record s { mode = Failing; goals = rest; stack = cut_to h s.stack }) (λ fs. refl) le (omega arith)
+  going-kind s (CatchEnd h ∷ rest) d le = go (height s == h)
+    where
+      go : (b : Bool) → Kind (length x.journal) x.budget s (λ fs. Goes (if b then cut_back (h - 1) (record s { goals = rest; fronts = fs }) else record s { goals = rest; fronts = fs }))
+      go true = stays (record s { goals = rest; stack = cut_to (h - 1) s.stack }) (λ fs. refl) le (omega arith)
+      go false = stays (record s { goals = rest }) (λ fs. refl) le (omega arith)
 
   taken-kind : (s : State) (a : Alternative) → s.front ≤ length x.journal → Kind (length x.journal) x.budget s (λ fs. taken x (at s fs) a)
   unfolding at
@@ -158,6 +195,7 @@ module _ (x : Setting) (made : made_all x ≡ true) where
   taken-kind s (Right goal cut) le = stepped-on (length x.journal) s (onwards (Do goal cut ∷ [])) le (λ t. record { next = record t { goals = Do goal cut ∷ t.goals }; goes_on = λ fs. refl; front_is = refl; steps_is = refl })
   taken-kind s Again le = stepped-on (length x.journal) s repeating le (λ t. record { next = pushed Again t; goes_on = λ fs. refl; front_is = refl; steps_is = refl })
   taken-kind s NotMark le = stays s (λ fs. refl) le (omega arith)
+  taken-kind s (CatchMark c r) le = stays (record s { mode = Failing }) (λ fs. refl) le (omega arith)
 
   failing-kind : (s : State) (st : List Choice) → s.front ≤ length x.journal → Kind (length x.journal) x.budget s (λ fs. failing x (at s fs) st)
   unfolding at
@@ -169,6 +207,35 @@ module _ (x : Setting) (made : made_all x ≡ true) where
       moved (takes t h l m) = takes t h l m
       moved (closes r h) = closes r h
 
+  recovering-kind : (s t : State) (ball recovery : Tree) (o : Option (ℕ → Tree)) → t.front ≤ length x.journal → t.steps ≡ s.steps → Kind (length x.journal) x.budget s (λ fs. recovering ball recovery (at t fs) o)
+  unfolding at
+  recovering-kind s t ball recovery None le e = stays (record t { mode = Raising ball }) (λ fs. refl) le (omega arith)
+  recovering-kind s t ball recovery (Some m) le e =
+      stays (record t { goals = map (next_under m) (Do (call_term recovery) (height t) ∷ t.goals); bindings = λ v. substituted m (t.bindings v) }) (λ fs. refl) le (omega arith)
+
+  reaching-kind : (s : State) (ball : Tree) (below : List Choice) (c : Choice) (a : Alternative) → s.front ≤ length x.journal → Kind (length x.journal) x.budget s (λ fs. reaching ball (at s fs) below c a)
+  unfolding at
+  reaching-kind s ball below c (CatchMark catcher recovery) le =
+      recovering-kind s (record (back_to s c below) { fresh = s.fresh + beyond ball }) ball recovery (unifier (renamed s.fresh ball) catcher) le refl
+  reaching-kind s ball below c (Clauses goal rest) le = stays (record s { stack = below }) (λ fs. refl) le (omega arith)
+  reaching-kind s ball below c (Right goal cut) le = stays (record s { stack = below }) (λ fs. refl) le (omega arith)
+  reaching-kind s ball below c Again le = stays (record s { stack = below }) (λ fs. refl) le (omega arith)
+  reaching-kind s ball below c NotMark le = stays (record s { stack = below }) (λ fs. refl) le (omega arith)
+
+  reached-kind : (s : State) (ball : Tree) (st : List Choice) → s.front ≤ length x.journal → Kind (length x.journal) x.budget s (λ fs. reached x ball (at s fs) st)
+  unfolding at
+  reached-kind s ball [] le = over-kind (length x.journal) s s (Ball ball)
+  reached-kind s ball (c ∷ below) le = reaching-kind s ball below c c.what le
+
+  caught-kind : (s : State) (ball : Tree) (o : Option ℕ) → s.front ≤ length x.journal → Kind (length x.journal) x.budget s (λ fs. caught x ball (at s fs) o)
+  unfolding at
+  caught-kind s ball None le = over-kind (length x.journal) s s (Ball ball)
+  caught-kind s ball (Some h) le = go (nat_lt h (height s))
+    where
+      go : (b : Bool) → Kind (length x.journal) x.budget s (λ fs. if b then Goes (cut_back h (record s { fronts = fs })) else reached x ball (record s { fronts = fs }) s.stack)
+      go true = stays (record s { stack = cut_to h s.stack }) (λ fs. refl) le (omega arith)
+      go false = reached-kind s ball s.stack le
+
   move-kind : (s : State) → IsWellMade s → s.front ≤ length x.journal → Kind (length x.journal) x.budget s (λ fs. move x (at s fs))
   unfolding at
   move-kind s w le = go s.mode
@@ -176,7 +243,7 @@ module _ (x : Setting) (made : made_all x ≡ true) where
       go : (m : Mode) → Kind (length x.journal) x.budget s (λ fs. elim m [ Going ↦ going x (at s fs) s.goals | Failing ↦ failing x (at s fs) s.stack | Raising ball ↦ raising x (at s fs) ball ])
       go Going = going-kind s s.goals w.goals le
       go Failing = failing-kind s s.stack le
-      go (Raising ball) = over-kind (length x.journal) s s (Ball ball)
+      go (Raising ball) = caught-kind s ball (active_catch s.goals) le
 
   -- a run from the state, at fronts that are all the journal's length
   Found : State → Type 0

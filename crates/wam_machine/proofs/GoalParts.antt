@@ -18,7 +18,7 @@ use Rattle.wam_machine.specs.Goals.{IsFound, IsFoundNow, IsControl, AreAmong, Ar
 use Rattle.wam_machine.specs.Control as spec
 use Rattle.wam_machine.specs.Control.{control_of, control_of_either}
 use Rattle.wam_machine.specs.declared.control.Control.{Control}
-use Rattle.wam_machine.specs.declared.control.Control.TheVariants.{True, Fail, Cut, Repeat, Both, Either, IfElse, If, Not, Call, Once, Equal, User}
+use Rattle.wam_machine.specs.declared.control.Control.TheVariants.{True, Fail, Cut, Repeat, Both, Either, IfElse, If, Not, Call, Once, Catch, Throw, Halt, HaltWith, Equal, User}
 use Rattle.wam_machine.specs.declared.terms.Terms.{Terms}
 use Rattle.wam_machine.proofs.SeenCells.{count_trees, text_read}
 use Rattle.wam_machine.proofs.SpineParts.{two-cells, two-trees}
@@ -37,20 +37,33 @@ tested-text texts n a x text_is b c s e is d = ap (is_named text_is) (text_read 
 
 -- ---- atoms
 
-fifth : (c1 c2 c3 c4 c5 : spec.Control) (p q r s : Bool) → p ≡ false → q ≡ false → r ≡ false → s ≡ false
-    → (if p then c1 else if q then c2 else if r then c3 else if s then c4 else c5) ≡ c5
-fifth c1 c2 c3 c4 c5 p q r s a b c d = rw (a, b, c, d) refl
+sixth : (c1 c2 c3 c4 c5 c6 : spec.Control) (p q r s t : Bool) → p ≡ false → q ≡ false → r ≡ false → s ≡ false → t ≡ false
+    → (if p then c1 else if q then c2 else if r then c3 else if s then c4 else if t then c5 else c6) ≡ c6
+sixth c1 c2 c3 c4 c5 c6 p q r s t a b c d e = rw (a, b, c, d, e) refl
 
 pub atom-user : (a : List ℕ) → is_named (codes "true") a ≡ false → is_named (codes "fail") a ≡ false → is_named (codes "!") a ≡ false → is_named (codes "repeat") a ≡ false
-    → IsFound [] (λ tree. atom a) (User (record { name = a; arity = 0 }))
-atom-user a p q r s = record {
+    → is_named (codes "halt") a ≡ false → IsFound [] (λ tree. atom a) (User (record { name = a; arity = 0 }))
+atom-user a p q r s h = record {
   is = λ tree.
       ap (λ (c : spec.Control). Some c)
-      (fifth spec.True spec.Fail spec.Cut spec.Repeat (spec.User (record { name = a; arity = 0 })) (is_named (codes "true") a) (is_named (codes "fail") a) (is_named (codes "!") a) (is_named (codes "repeat") a) p q r s);
-  among = λ n sh h. tt;
+      (sixth spec.True spec.Fail spec.Cut spec.Repeat spec.Halt (spec.User (record { name = a; arity = 0 })) (is_named (codes "true") a) (is_named (codes "fail") a) (is_named (codes "!") a) (is_named (codes "repeat") a)
+      (is_named (codes "halt") a) p q r s h);
+  among = λ n sh k. tt;
 }
 
--- ---- three arguments or more
+-- ---- one argument
+
+pub one-user : (f : List ℕ) (only : Cell) → is_named (codes "call") f ≡ false → is_named (codes "once") f ≡ false → is_named (codes "\\+") f ≡ false → is_named (codes "throw") f ≡ false
+    → is_named (codes "halt") f ≡ false → IsFound (only ∷ []) (λ tree. compound f (more (tree only) none)) (User (record { name = f; arity = 1 }))
+one-user f only p q r s h = record {
+  is = λ tree.
+      ap (λ (c : spec.Control). Some c)
+      (sixth (spec.Call (tree only) none) (spec.Once (tree only)) (spec.Not (tree only)) (spec.Throw (tree only)) (spec.HaltWith (tree only)) (spec.User (record { name = f; arity = 1 }))
+      (is_named (codes "call") f) (is_named (codes "once") f) (is_named (codes "\\+") f) (is_named (codes "throw") f) (is_named (codes "halt") f) p q r s h);
+  among = λ n sh k. tt;
+}
+
+-- ---- four arguments or more
 
 below : (n m : ℕ) → n < m → nat_lt n m ≡ true
 below n m h = grind (arith, nat_tests)
@@ -68,22 +81,23 @@ other-name b c e = rw e refl
 both-hold : (b c : Bool) (x y : spec.Control) → b ≡ true → c ≡ true → (if b && c then x else y) ≡ x
 both-hold b c x y e h = rw (e, h) refl
 
-pub more-call : (f : List ℕ) (args : List Cell) (d : Cell) (added : Vec Cell Global) → 3 ≤ length args → length args ≤ 8 → is_named (codes "call") f ≡ true → added.items ≡ drop 1 args
+pub more-call : (f : List ℕ) (args : List Cell) (d : Cell) (added : Vec Cell Global) → 4 ≤ length args → length args ≤ 8 → is_named (codes "call") f ≡ true → added.items ≡ drop 1 args
     → IsFound args (λ tree. compound f (trees_of tree args)) (Call (get_or args 0 d) added)
 more-call f [] d added some few e is = absurd (omega arith)
 more-call f (a ∷ []) d added some few e is = absurd (omega arith)
 more-call f (a ∷ b ∷ []) d added some few e is = absurd (omega arith)
-more-call f (a ∷ b ∷ c ∷ cs) d added some few e is = record {
+more-call f (a ∷ b ∷ c ∷ []) d added some few e is = absurd (omega arith)
+more-call f (a ∷ b ∷ c ∷ x ∷ cs) d added some few e is = record {
   is = λ tree.
-      let k = count_trees tree (b ∷ c ∷ cs) in
-      let low : count (trees_of tree (b ∷ c ∷ cs)) < 8 = omega (arith, k, few) in
-      ap (λ (x : spec.Control). Some x)
-      (both-hold (is_named (codes "call") f) (nat_lt (count (trees_of tree (b ∷ c ∷ cs))) 8) (spec.Call (tree a) (trees_of tree (b ∷ c ∷ cs)))
-      (spec.User (record { name = f; arity = count (trees_of tree (b ∷ c ∷ cs)) + 1 })) e (below _ 8 low))
+      let k = count_trees tree (b ∷ c ∷ x ∷ cs) in
+      let low : count (trees_of tree (b ∷ c ∷ x ∷ cs)) < 8 = omega (arith, k, few) in
+      ap (λ (k : spec.Control). Some k)
+      (both-hold (is_named (codes "call") f) (nat_lt (count (trees_of tree (b ∷ c ∷ x ∷ cs))) 8) (spec.Call (tree a) (trees_of tree (b ∷ c ∷ x ∷ cs)))
+      (spec.User (record { name = f; arity = count (trees_of tree (b ∷ c ∷ x ∷ cs)) + 1 })) e (below _ 8 low))
       ∙ sym (ap (λ (l : List Cell). Some (spec.Call (tree a) (trees_of tree l))) is);
   among = λ n sh h. (
     h 0 a (omega arith),
-    subst (All (HasTerm n sh)) (sym is) (All-tail (HasTerm n sh) a (b ∷ c ∷ cs) h),
+    subst (All (HasTerm n sh)) (sym is) (All-tail (HasTerm n sh) a (b ∷ c ∷ x ∷ cs) h),
     (let l = ap length is in omega (arith, l, few)),
   );
 }
@@ -91,19 +105,20 @@ more-call f (a ∷ b ∷ c ∷ cs) d added some few e is = record {
 neither : (b : Bool) (x y : spec.Control) → b ≡ false → (if b then x else y) ≡ y
 neither b x y e = rw e refl
 
-pub more-user : (f : List ℕ) (args : List Cell) → 3 ≤ length args → (is_named (codes "call") f && nat_lt (length args - 1) 8) ≡ false
+pub more-user : (f : List ℕ) (args : List Cell) → 4 ≤ length args → (is_named (codes "call") f && nat_lt (length args - 1) 8) ≡ false
     → IsFound args (λ tree. compound f (trees_of tree args)) (User (record { name = f; arity = length args }))
 more-user f [] some e = absurd (omega arith)
 more-user f (a ∷ []) some e = absurd (omega arith)
 more-user f (a ∷ b ∷ []) some e = absurd (omega arith)
-more-user f (a ∷ b ∷ c ∷ cs) some e = record {
+more-user f (a ∷ b ∷ c ∷ []) some e = absurd (omega arith)
+more-user f (a ∷ b ∷ c ∷ x ∷ cs) some e = record {
   is = λ tree.
-      let k = count_trees tree (b ∷ c ∷ cs) in
-      let fewer : count (trees_of tree (b ∷ c ∷ cs)) ≡ length (a ∷ b ∷ c ∷ cs) - 1 = omega (arith, k) in
-      let whole : count (trees_of tree (b ∷ c ∷ cs)) + 1 ≡ length (a ∷ b ∷ c ∷ cs) = omega (arith, k) in
-      ap (λ (x : spec.Control). Some x)
-      (neither (is_named (codes "call") f && nat_lt (count (trees_of tree (b ∷ c ∷ cs))) 8) (spec.Call (tree a) (trees_of tree (b ∷ c ∷ cs)))
-      (spec.User (record { name = f; arity = count (trees_of tree (b ∷ c ∷ cs)) + 1 })) (ap (λ (n : ℕ). is_named (codes "call") f && nat_lt n 8) fewer ∙ e))
+      let k = count_trees tree (b ∷ c ∷ x ∷ cs) in
+      let fewer : count (trees_of tree (b ∷ c ∷ x ∷ cs)) ≡ length (a ∷ b ∷ c ∷ x ∷ cs) - 1 = omega (arith, k) in
+      let whole : count (trees_of tree (b ∷ c ∷ x ∷ cs)) + 1 ≡ length (a ∷ b ∷ c ∷ x ∷ cs) = omega (arith, k) in
+      ap (λ (k : spec.Control). Some k)
+      (neither (is_named (codes "call") f && nat_lt (count (trees_of tree (b ∷ c ∷ x ∷ cs))) 8) (spec.Call (tree a) (trees_of tree (b ∷ c ∷ x ∷ cs)))
+      (spec.User (record { name = f; arity = count (trees_of tree (b ∷ c ∷ x ∷ cs)) + 1 })) (ap (λ (n : ℕ). is_named (codes "call") f && nat_lt n 8) fewer ∙ e))
       ∙ ap (λ (n : ℕ). Some (spec.User (record { name = f; arity = n }))) whole;
   among = λ n sh h. tt;
 }
@@ -167,6 +182,20 @@ one-all P a h = All-cons P a [] h (All-nil P)
 pub two-all : (P : Cell → Type 0) (a b : Cell) → P a → P b → All P (a ∷ b ∷ [])
 two-all P a b h k = All-cons P a (b ∷ []) h (All-cons P b [] k (All-nil P))
 
+three-cells : (cs : List Cell) (d : Cell) → 3 ≤ length cs → length cs < 4 → cs ≡ get_or cs 0 d ∷ get_or cs 1 d ∷ get_or cs 2 d ∷ []
+three-cells [] d h k = absurd (omega arith)
+three-cells (a ∷ []) d h k = absurd (omega arith)
+three-cells (a ∷ b ∷ []) d h k = absurd (omega arith)
+three-cells (a ∷ b ∷ c ∷ []) d h k = refl
+three-cells (a ∷ b ∷ c ∷ x ∷ cs) d h k = absurd (omega arith)
+
+pub three-tree : (tree : Cell → Tree) (f : List ℕ) (cs : List Cell) (d : Cell) → 3 ≤ length cs → length cs < 4
+    → compound f (more (tree (get_or cs 0 d)) (more (tree (get_or cs 1 d)) (more (tree (get_or cs 2 d)) none))) ≡ compound f (trees_of tree cs)
+three-tree tree f cs d h k = sym (ap (λ (l : List Cell). compound f (trees_of tree l)) (three-cells cs d h k))
+
+pub three-all : (P : Cell → Type 0) (a b c : Cell) → P a → P b → P c → All P (a ∷ b ∷ c ∷ [])
+three-all P a b c h k l = All-cons P a (b ∷ c ∷ []) h (two-all P b c k l)
+
 some-same : (a b : spec.Control) → Some a ≡ Some b → a ≡ b
 some-same a b e = cc
 
@@ -187,6 +216,10 @@ module _ {C : Type 0} (t : Terms C) where
   found-goals (Not g) h k = tt
   found-goals (Call g added) h k = tt
   found-goals (Once g) h k = tt
+  found-goals (Catch g c r) h k = tt
+  found-goals (Throw b) h k = tt
+  found-goals Halt h k = tt
+  found-goals (HaltWith n) h k = tt
   found-goals (Equal a b) h k = tt
   found-goals (User i) h k = tt
 

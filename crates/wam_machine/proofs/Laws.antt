@@ -1,6 +1,6 @@
 -- A goal has one transcript at most, and its steps are within the budget.
 use Rattle.std.proofs.Common.{◌≡◌, ℕ, suc, ◌+◌, ◌≤◌, List, [], ◌∷◌, Bool, true, false, refl, sym, ◌∙◌, subst, arith, inl, inr}
-use Rattle.std.specs.Prelude.{◌==◌, ◌≢◌, ◌⊎◌, ◌&&◌, nat_le, nat_lt, codes, if◌then◌else◌, Option, Some, None, take, length}
+use Rattle.std.specs.Prelude.{pos, ◌-◌, ◌==◌, ◌≢◌, ◌⊎◌, ◌&&◌, nat_le, nat_lt, codes, if◌then◌else◌, Option, Some, None, take, length}
 use Rattle.std.proofs.lemmas.Bool.Decides.{eqb_tells}
 use Rattle.prolog_terms.specs.Tree.{Tree, Trees, variable, integer, atom, compound, count}
 use Rattle.prolog_terms.specs.declared.fault.Fault.TheVariants.{Representation}
@@ -8,13 +8,13 @@ use Rattle.prolog_terms.specs.declared.entry.Clause.{Clause}
 use Rattle.prolog_terms.specs.declared.entry.Indicator.{Indicator}
 use Rattle.journal_base.specs.Journal.{Journal, number_of}
 use Rattle.journal_base.specs.Keys.{keys}
-use Rattle.prolog_terms.specs.Substitutions.{renamed}
+use Rattle.prolog_terms.specs.Substitutions.{renamed, beyond}
 use Rattle.term_unifier.specs.Unifier.{unifier}
 use Rattle.prolog_terms.specs.Clauses.{body_of}
-use Rattle.wam_machine.specs.Control.{Control, True, Fail, Cut, Repeat, Both, Either, IfElse, If, Not, Call, Once, Equal, User, control_of, with_added}
+use Rattle.wam_machine.specs.Control.{Control, True, Fail, Cut, Repeat, Both, Either, IfElse, If, Not, Call, Once, Catch, Throw, Halt, HaltWith, Equal, User, control_of, with_added}
 use Rattle.wam_machine.specs.declared.run.RunEnd.{RunEnd}
-use Rattle.wam_machine.specs.declared.run.RunEnd.TheVariants.{Exhausted, Ball, Spent}
-use Rattle.wam_machine.specs.Machine.{Next, Do, ConditionEnd, NotEnd, Alternative, Clauses, Right, Again, NotMark, Choice, Mode, Going, Failing, Raising, State, Setting, Report, Outcome, Goes, Ends, Unfit, no_more, made_all, over, stepping, onwards, height, solving, equating, numbering, body_from, entering, leaving, trying, candidate_clauses, looked, called, calling, call_with, running, calling_added, denying, repeating, performing, doing, goal_move, going, back_to, taken, failing, raising, raises, move, Runs, ends, goes}
+use Rattle.wam_machine.specs.declared.run.RunEnd.TheVariants.{Exhausted, Ball, Spent, Halted}
+use Rattle.wam_machine.specs.Machine.{Next, Do, ConditionEnd, NotEnd, CatchEnd, Alternative, Clauses, Right, Again, NotMark, CatchMark, Choice, Mode, Going, Failing, Raising, State, Setting, Report, Outcome, Goes, Ends, Unfit, no_more, made_all, over, stepping, onwards, height, solving, equating, numbering, body_from, entering, leaving, trying, candidate_clauses, looked, called, calling, call_with, running, calling_added, denying, catching, throwing, halting, cut_back, leaving_catch, active_catch, recovering, reaching, reached, caught, repeating, performing, doing, goal_move, going, back_to, taken, failing, raising, raises, move, Runs, ends, goes}
 
 -- ---- one transcript
 
@@ -84,6 +84,22 @@ denying-keeps : (goal : Tree) (s : State) (o : Option Tree) → Keeps s.steps (d
 denying-keeps goal s None = refl
 denying-keeps goal s (Some b) = refl
 
+catching-keeps : (goal catcher recovery : Tree) (s : State) (o : Option Tree) → Keeps s.steps (catching goal catcher recovery s o)
+catching-keeps goal catcher recovery s None = refl
+catching-keeps goal catcher recovery s (Some b) = refl
+
+throwing-keeps : (ball : Tree) (s : State) → Keeps s.steps (throwing ball s)
+throwing-keeps (variable n) s = refl
+throwing-keeps (integer z) s = refl
+throwing-keeps (atom a) s = refl
+throwing-keeps (compound f ts) s = refl
+
+halting-keeps : (x : Setting) (code : Tree) (s : State) → Keeps s.steps (halting x code s)
+halting-keeps x (variable n) s = refl
+halting-keeps x (integer z) s = over-keeps x s (Halted z)
+halting-keeps x (atom a) s = refl
+halting-keeps x (compound f ts) s = refl
+
 calling_added-keeps : (goal : Tree) (added : Trees) (s : State) → Keeps s.steps (calling_added goal added s)
 calling_added-keeps (variable n) added s = refl
 calling_added-keeps (integer z) added s = refl
@@ -126,6 +142,10 @@ performing-keeps x goal cut (If c t) s = refl
 performing-keeps x goal cut (Not g) s = denying-keeps g s (body_of g)
 performing-keeps x goal cut (Call g added) s = calling_added-keeps g added s
 performing-keeps x goal cut (Once g) s = refl
+performing-keeps x goal cut (Catch g c r) s = catching-keeps g c r s (body_of g)
+performing-keeps x goal cut (Throw b) s = throwing-keeps b s
+performing-keeps x goal cut Halt s = over-keeps x s (Halted (pos 0))
+performing-keeps x goal cut (HaltWith n) s = halting-keeps x n s
 performing-keeps x goal cut (Equal a b) s = equating-keeps a b [] s
 performing-keeps x goal cut (User i) s = calling-keeps x s goal i
 
@@ -144,6 +164,10 @@ doing-within x goal cut s (If c t) le = performed-within x goal cut s (If c t) l
 doing-within x goal cut s (Not g) le = performed-within x goal cut s (Not g) le
 doing-within x goal cut s (Call g added) le = performed-within x goal cut s (Call g added) le
 doing-within x goal cut s (Once g) le = performed-within x goal cut s (Once g) le
+doing-within x goal cut s (Catch g c r) le = performed-within x goal cut s (Catch g c r) le
+doing-within x goal cut s (Throw b) le = performed-within x goal cut s (Throw b) le
+doing-within x goal cut s Halt le = performed-within x goal cut s Halt le
+doing-within x goal cut s (HaltWith n) le = performed-within x goal cut s (HaltWith n) le
 doing-within x goal cut s (Equal a b) le = performed-within x goal cut s (Equal a b) le
 doing-within x goal cut s (User i) le = performed-within x goal cut s (User i) le
 
@@ -151,21 +175,54 @@ goal_move-within : (x : Setting) (goal : Tree) (cut : ℕ) (s : State) (o : Opti
 goal_move-within x goal cut s None le = tt
 goal_move-within x goal cut s (Some c) le = doing-within x goal cut s c le
 
+leaving_catch-keeps : (h : ℕ) (s : State) → (leaving_catch h s).steps ≡ s.steps
+leaving_catch-keeps h s = go (height s == h)
+  where
+    go : (b : Bool) → (if b then cut_back (h - 1) s else s).steps ≡ s.steps
+    go true = refl
+    go false = refl
+
 going-within : (x : Setting) (s : State) (gs : List Next) → s.steps ≤ x.budget → Within x.budget (going x s gs)
 going-within x s [] le = le
 going-within x s (Do g cut ∷ rest) le = goal_move-within x g cut (record s { goals = rest }) (control_of g) le
 going-within x s (ConditionEnd h ∷ rest) le = le
 going-within x s (NotEnd h ∷ rest) le = le
+going-within x s (CatchEnd h ∷ rest) le = rw (leaving_catch-keeps h (record s { goals = rest })) le
 
 taken-within : (x : Setting) (s : State) (a : Alternative) → s.steps ≤ x.budget → Within x.budget (taken x s a)
 taken-within x s (Clauses goal rest) le = stepping-within x s (trying goal rest) le (trying-keeps goal rest)
 taken-within x s (Right goal cut) le = stepping-within x s (onwards (Do goal cut ∷ [])) le (λ t. refl)
 taken-within x s Again le = stepping-within x s repeating le (λ t. refl)
 taken-within x s NotMark le = le
+taken-within x s (CatchMark c r) le = le
 
 failing-within : (x : Setting) (s : State) (st : List Choice) → s.steps ≤ x.budget → Within x.budget (failing x s st)
 failing-within x s [] le = kept_within x.budget s.steps (over x s Exhausted) le (over-keeps x s Exhausted)
 failing-within x s (c ∷ below) le = taken-within x (back_to s c below) c.what le
+
+recovering-keeps : (ball recovery : Tree) (s : State) (o : Option (ℕ → Tree)) → Keeps s.steps (recovering ball recovery s o)
+recovering-keeps ball recovery s None = refl
+recovering-keeps ball recovery s (Some m) = refl
+
+reaching-keeps : (ball : Tree) (s : State) (below : List Choice) (c : Choice) (a : Alternative) → Keeps s.steps (reaching ball s below c a)
+reaching-keeps ball s below c (CatchMark catcher recovery) =
+    recovering-keeps ball recovery (record (back_to s c below) { fresh = s.fresh + beyond ball }) (unifier (renamed s.fresh ball) catcher)
+reaching-keeps ball s below c (Clauses goal rest) = refl
+reaching-keeps ball s below c (Right goal cut) = refl
+reaching-keeps ball s below c Again = refl
+reaching-keeps ball s below c NotMark = refl
+
+reached-keeps : (x : Setting) (ball : Tree) (s : State) (st : List Choice) → Keeps s.steps (reached x ball s st)
+reached-keeps x ball s [] = over-keeps x s (Ball ball)
+reached-keeps x ball s (c ∷ below) = reaching-keeps ball s below c c.what
+
+caught-keeps : (x : Setting) (ball : Tree) (s : State) (o : Option ℕ) → Keeps s.steps (caught x ball s o)
+caught-keeps x ball s None = over-keeps x s (Ball ball)
+caught-keeps x ball s (Some h) = go (nat_lt h (height s))
+  where
+    go : (b : Bool) → Keeps s.steps (if b then Goes (cut_back h s) else reached x ball s s.stack)
+    go true = refl
+    go false = reached-keeps x ball s s.stack
 
 pub move-within : (x : Setting) (s : State) → s.steps ≤ x.budget → Within x.budget (move x s)
 move-within x s le = go s.mode
@@ -173,7 +230,7 @@ move-within x s le = go s.mode
     go : (m : Mode) → Within x.budget (elim m [ Going ↦ going x s s.goals | Failing ↦ failing x s s.stack | Raising ball ↦ raising x s ball ])
     go Going = going-within x s s.goals le
     go Failing = failing-within x s s.stack le
-    go (Raising ball) = kept_within x.budget s.steps (over x s (Ball ball)) le (over-keeps x s (Ball ball))
+    go (Raising ball) = kept_within x.budget s.steps (raising x s ball) le (caught-keeps x ball s (active_catch s.goals))
 
 pub Runs-within : (x : Setting) {s : State} {r : Report} → Runs x s r → s.steps ≤ x.budget → r.steps ≤ x.budget
 Runs-within x (ends {s = s} e) le = let P : Outcome → Type 0 = λ o. Within x.budget o in subst P e (move-within x s le)

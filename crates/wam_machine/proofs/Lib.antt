@@ -52,4 +52,10 @@ pub mod BodyFolds
 pub mod MadeBodies
 pub mod Cleared
 pub mod FirstTerms
+pub mod Active
+pub mod Under
+pub mod Thrown
 pub mod Examples
+pub mod Marks
+pub mod BallTerms
+pub mod BallMoves

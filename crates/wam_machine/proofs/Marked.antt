@@ -31,6 +31,7 @@ turn-kept t (is.Clauses c) h = h
 turn-kept t (is.Right c cut) h = (h.built_is, h.body)
 turn-kept t is.Again h = tt
 turn-kept t is.NotMark h = tt
+turn-kept t (is.CatchMark c r) h = h
 
 kept-turn : {C : Type 0} (t : Terms C) (what : Alternative C) → IsKeptTurn t.names t.store what → IsTurn t what
 unfolding IsBuilt built
@@ -38,6 +39,7 @@ kept-turn t (is.Clauses c) h = h
 kept-turn t (is.Right c cut) h = record { built_is = h.0; body = h.1 }
 kept-turn t is.Again h = tt
 kept-turn t is.NotMark h = tt
+kept-turn t (is.CatchMark c r) h = h
 
 -- ---- a moment is saved
 
@@ -238,3 +240,6 @@ dropped-again tree what e = subst (λ (w : Alternative _). IsCallOf (turn_of tre
 
 pub dropped-not : {C : Type 0} (tree : Cell → Tree) (what : Alternative C) → what ≡ is.NotMark → IsCallOf (turn_of tree what) None
 dropped-not tree what e = subst (λ (w : Alternative _). IsCallOf (turn_of tree w) None) (sym e) tt
+
+pub dropped-catch : {C : Type 0} (tree : Cell → Tree) (what : Alternative C) (c r : Cell) → what ≡ is.CatchMark c r → IsCallOf (turn_of tree what) None
+dropped-catch tree what c r e = subst (λ (w : Alternative _). IsCallOf (turn_of tree w) None) (sym e) tt

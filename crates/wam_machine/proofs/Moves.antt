@@ -10,14 +10,14 @@ use Rattle.prolog_terms.specs.declared.fault.Fault.TheVariants.{Existence}
 use Rattle.journal_base.specs.Calls.{Goal}
 use Rattle.journal_base.specs.Journal.{Journal, number_of}
 use Rattle.journal_base.specs.Keys.{keys}
-use Rattle.wam_machine.specs.Control.{Control, True, Fail, Cut, Repeat, Both, Either, IfElse, If, Not, Call, Once, Equal, User, control_of}
+use Rattle.wam_machine.specs.Control.{Control, True, Fail, Cut, Repeat, Both, Either, IfElse, If, Not, Call, Once, Catch, Throw, Halt, HaltWith, Equal, User, control_of}
 use Rattle.wam_machine.specs.Machine as spec
-use Rattle.wam_machine.specs.Machine.{Next, Do, Alternative, Clauses, Right, Again, NotMark, State, Setting, Outcome, Goes, Ends, Look, Report, Going, Failing, Raising, move, trying, calling, called, candidate_clauses, call_of, goal_move, doing, performing, stepping, taken, back_to, is_alternative, made_all, over, newest}
-use Rattle.wam_machine.specs.Terms.{Turn, OfCall, OfRight, OfRepeat, OfNot, Saved, is_open, is_any_open}
+use Rattle.wam_machine.specs.Machine.{Next, Do, Alternative, Clauses, Right, Again, NotMark, CatchMark, State, Setting, Outcome, Goes, Ends, Look, Report, Going, Failing, Raising, move, trying, calling, called, candidate_clauses, call_of, goal_move, doing, performing, stepping, taken, back_to, is_alternative, made_all, over, newest}
+use Rattle.wam_machine.specs.Terms.{Turn, OfCall, OfRight, OfRepeat, OfNot, OfCatch, Saved, is_open, is_any_open}
 use Rattle.wam_machine.specs.View.{alternative_of, choice_of, state_from, stack_of, resuming}
 use Rattle.wam_machine.specs.declared.run.Event.{Event}
 use Rattle.wam_machine.specs.declared.run.RunEnd.{RunEnd}
-use Rattle.wam_machine.specs.declared.run.RunEnd.TheVariants.{Exhausted, Ball, Spent}
+use Rattle.wam_machine.specs.declared.run.RunEnd.TheVariants.{Exhausted, Spent}
 
 -- ---- the stack
 
@@ -33,6 +33,7 @@ module _ {C : Type 0} (rest : C → Goal → Journal → List ℕ) (at : C → �
   open-is (OfRight g h) = refl
   open-is OfRepeat = refl
   open-is OfNot = refl
+  open-is (OfCatch c r) = refl
 
   any-onto : (xs : List (Saved C)) (onto : List spec.Choice)
       → list_any (λ c. is_alternative c.what) (newest (choice_of rest at j) xs onto) ≡ (is_any_open xs || list_any (λ c. is_alternative c.what) onto)
@@ -87,6 +88,10 @@ TakesStep (If c t) = Unit {0}
 TakesStep (Not g) = Unit {0}
 TakesStep (Call g added) = Unit {0}
 TakesStep (Once g) = Unit {0}
+TakesStep (Catch g c r) = Unit {0}
+TakesStep (Throw b) = Unit {0}
+TakesStep Halt = Unit {0}
+TakesStep (HaltWith n) = Unit {0}
 TakesStep (Equal a b) = Unit {0}
 TakesStep (User i) = Unit {0}
 
@@ -102,6 +107,10 @@ doing-steps x goal cut s (If c t) h = refl
 doing-steps x goal cut s (Not g) h = refl
 doing-steps x goal cut s (Call g added) h = refl
 doing-steps x goal cut s (Once g) h = refl
+doing-steps x goal cut s (Catch g c r) h = refl
+doing-steps x goal cut s (Throw b) h = refl
+doing-steps x goal cut s Halt h = refl
+doing-steps x goal cut s (HaltWith n) h = refl
 doing-steps x goal cut s (Equal a b) h = refl
 doing-steps x goal cut s (User i) h = refl
 
@@ -110,6 +119,7 @@ taken-steps x s (Clauses goal cs) h = refl
 taken-steps x s (Right goal cut) h = refl
 taken-steps x s Again h = refl
 taken-steps x s NotMark h = absurd (cc h)
+taken-steps x s (CatchMark c r) h = absurd (cc h)
 
 pub stepping-on : (x : Setting) (s : State) (f : State → Outcome) → s.steps ≢ x.budget → stepping x s f ≡ f (record s { steps = s.steps + 1 })
 stepping-on x s f d =
@@ -157,14 +167,11 @@ module _ (x : Setting) (goals : List Next) (stack : List spec.Choice) (bindings 
       (state_from goals stack bindings fresh m steps events f (looks ++ record { before = front; front = f; call = call_of p goal } ∷ []) tried fs)
   call_found m goal i p f fs low high some = called_at m goal i f fs low high ∙ rw some refl
 
--- ---- after a failure, and a ball
+-- ---- after a failure
 
 module _ (x : Setting) (s : State) where
   pub exhausted : IsTrue (made_all x) → s.mode ≡ Failing → s.stack ≡ [] → s.fronts ≡ [] → move x s ≡ Ends (report s.events s.looks s.tried s.steps Exhausted)
   exhausted made mode none fronts = rw (mode, none) (over-ended x s Exhausted made fronts)
-
-  pub raised : (ball : Tree) → IsTrue (made_all x) → s.mode ≡ Raising ball → s.fronts ≡ [] → move x s ≡ Ends (report s.events s.looks s.tried s.steps (Ball ball))
-  raised ball made mode fronts = rw mode (over-ended x s (Ball ball) made fronts)
 
   pub fails_back : (c : spec.Choice) (below : List spec.Choice) → s.mode ≡ Failing → s.stack ≡ c ∷ below → move x s ≡ taken x (back_to s c below) c.what
   fails_back c below mode stack = rw (mode, stack) refl

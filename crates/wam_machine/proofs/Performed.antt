@@ -1,5 +1,5 @@
 -- A goal that is done is the machine's move.
-use Rattle.std.proofs.Common.{◌≡◌, ℕ, ◌+◌, List, [], refl, arith, Some}
+use Rattle.std.proofs.Common.{◌≡◌, ℕ, ◌+◌, List, [], refl, arith, Option, Some}
 use Rattle.std.specs.Prelude.{◌≢◌}
 use Rattle.prolog_terms.specs.Tree.{Tree}
 use Rattle.journal_base.specs.Calls.{Goal}
@@ -10,13 +10,14 @@ use Rattle.wam_machine.specs.Control as spec
 use Rattle.wam_machine.specs.Control.{control_of}
 use Rattle.wam_machine.specs.Machine.{Setting, performing}
 use Rattle.wam_machine.specs.Goals.{IsSimple, control_in}
-use Rattle.wam_machine.specs.View.{state_of, performs_goal, GoesOn, ComesToEnd, IsHeld}
+use Rattle.wam_machine.specs.View.{state_of, performs_goal, GoesOn, ComesToEnd, Does, IsHeld}
 use Rattle.wam_machine.specs.declared.control.Control.{Control}
-use Rattle.wam_machine.specs.declared.control.Control.TheVariants.{True, Fail, Cut, Repeat, Both, Either, IfElse, If, Not, Call, Once, Equal, User}
+use Rattle.wam_machine.specs.declared.control.Control.TheVariants.{True, Fail, Cut, Repeat, Both, Either, IfElse, If, Not, Call, Once, Catch, Throw, Halt, HaltWith, Equal, User}
+use Rattle.wam_machine.specs.declared.run.RunEnd.{RunEnd}
 use Rattle.wam_machine.specs.declared.run.RunEnd.TheVariants.{Spent}
 use Rattle.wam_machine.specs.declared.state.Machine.{Machine}
 use Rattle.wam_machine.proofs.Moves.{TakesStep, goal_steps, goal_spent}
-use Rattle.wam_machine.proofs.Steps.{through}
+use Rattle.wam_machine.proofs.Steps.{through, does_through}
 
 -- ---- counts
 
@@ -46,6 +47,10 @@ takes_step tree (If c t) h = tt
 takes_step tree (Not g) h = tt
 takes_step tree (Call g added) h = tt
 takes_step tree (Once g) h = tt
+takes_step tree (Catch g c r) h = tt
+takes_step tree (Throw b) h = tt
+takes_step tree Halt h = tt
+takes_step tree (HaltWith n) h = tt
 takes_step tree (Equal a b) h = tt
 takes_step tree (User i) h = tt
 
@@ -56,6 +61,11 @@ module _ {C : Type 0} (rest : C → Goal → Journal → List ℕ) (may : C → 
   performed j n d on =
       through rest may at ahead causes (performing x goal cut c) (performs_goal x goal cut) j m (record m { steps = m.steps + 1 }) n refl refl refl
       (λ looks tried fs. goal_steps x goal cut (state_of rest at j m looks tried fs) c is takes d) on
+
+  pub performed_so : (n : Machine C) (o : Option RunEnd) → m.steps ≢ x.budget → Does rest may at ahead causes (performing x goal cut c) x (record m { steps = m.steps + 1 }) n o → Does rest may at ahead causes (performs_goal x goal cut) x m n o
+  performed_so n o d on =
+      does_through rest may at ahead causes (performing x goal cut c) (performs_goal x goal cut) x m (record m { steps = m.steps + 1 }) n o refl refl refl
+      (λ looks tried fs. goal_steps x goal cut (state_of rest at x.journal m looks tried fs) c is takes d) on
 
   -- no step is left
   pub is_spent : m.steps ≡ x.budget → ComesToEnd rest at (performs_goal x goal cut) x m m (Spent m.steps)

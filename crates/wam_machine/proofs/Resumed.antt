@@ -3,6 +3,7 @@ use Rattle.std.proofs.Common.{◌≡◌, ℕ, ◌+◌, ◌*◌, ◌≤◌, List,
 use Rattle.std.specs.Prelude.{◌≢◌, All}
 use Rattle.std.specs.List.{cons_option}
 use Rattle.std.proofs.lemmas.List.{length-append}
+use Rattle.prolog_terms.specs.Tree.{Tree}
 use Rattle.journal_base.specs.Calls.{Goal}
 use Rattle.journal_base.specs.Journal.{Journal}
 use Rattle.journal_base.specs.Looks.{most_raised}
@@ -10,10 +11,11 @@ use Rattle.journal_base.specs.declared.tally.Tally.{Tally}
 use Rattle.wam_machine.specs.Machine as spec
 use Rattle.wam_machine.specs.Machine.{Next, State, Setting, Outcome, Goes, Ends, Look, move, back_to}
 use Rattle.wam_machine.specs.Cursors.{AreNamed}
-use Rattle.wam_machine.specs.Terms.{Left, Turn, OfCall, OfRight, OfRepeat, OfNot, Saved, Said, AreTerms, HasNewest, said, call_in, calls_in, is_open}
+use Rattle.wam_machine.specs.Terms.{Left, Turn, OfCall, OfRight, OfRepeat, OfNot, OfCatch, Saved, Said, AreTerms, HasNewest, HasCatch, said, call_in, calls_in, is_open, is_catch}
 use Rattle.wam_machine.specs.View.{alternative_of, choice_of, stack_of, mode_of, state_from, state_of, resuming, calls, turn_calls, all_visits, aheads, Acts, GoesOn, ComesToEnd, IsHeld, IsHeldIn, Tries, Resumes, KeepsCounts}
 use Rattle.wam_machine.specs.declared.run.RunEnd.TheVariants.{Spent}
 use Rattle.wam_machine.specs.declared.state.Machine.{Machine}
+use Rattle.wam_machine.specs.declared.state.Mode.{Mode}
 use Rattle.wam_machine.specs.declared.state.Mode.TheVariants.{Going as IsGoing, Failing as IsFailing}
 use Rattle.wam_machine.specs.declared.terms.Terms.{Terms}
 use Rattle.wam_machine.proofs.Acted.{stack-push, calls-push, calls-beside}
@@ -26,6 +28,7 @@ one-turn (OfCall c) = refl
 one-turn (OfRight g h) = refl
 one-turn OfRepeat = refl
 one-turn OfNot = refl
+one-turn (OfCatch c r) = refl
 
 pub calls-turn : {C : Type 0} (ss : List (Saved C)) (s : Saved C) → calls_in (ss ++ s ∷ []) ≡ calls_in ss ++ turn_calls s.turn
 calls-turn ss s = calls-push ss s ∙ ap (λ cs. calls_in ss ++ cs) (one-turn s.turn)
@@ -59,6 +62,9 @@ module _ {C : Type 0} (rest : C → Goal → Journal → List ℕ) (may : C → 
 pub acts_still : {C : Type 0} (m : Machine C) → AreTerms m.terms → Acts (λ s. Goes s) m m
 acts_still m terms = record { terms = terms; same = refl; shown = refl; calls_are = refl; goes = λ rest at j looks tried fronts. refl }
 
+pub acts_fails : {C : Type 0} (m : Machine C) → AreTerms m.terms → Acts (λ s. spec.fails s) m (record m { mode = IsFailing })
+acts_fails m terms = record { terms = terms; same = refl; shown = refl; calls_are = refl; goes = λ rest at j looks tried fronts. refl }
+
 -- ---- back at a moment
 
 -- the moment, as it is said where it was gone back to
@@ -83,6 +89,20 @@ module _ {C : Type 0} (x : Setting) (m : Machine C) (failing : m.mode ≡ IsFail
     goes = λ rest at j looks tried fronts.
         came_back rest at j looks tried fronts (said t).stack (moment OfNot (said t)) is
         ∙ ap (λ (f : ℕ). Goes (state_from (said t).goals (stack_of rest at j (said t).stack) (said t).bindings f spec.Going m.steps m.events.items m.front looks tried fronts)) (sym fresh);
+  }
+
+  -- the mark of a `catch` is passed, and the failure goes further
+  pub passed-catch : (t : Terms C) (w r : Tree) → AreTerms t → (said m.terms).stack ≡ (said t).stack ++ moment (OfCatch w r) (said t) ∷ [] → (said t).fresh ≡ (said m.terms).fresh → (said t).shown ≡ (said m.terms).shown
+      → Acts (move x) m (record m { terms = t })
+  passed-catch t w r terms is fresh shown = record {
+    terms = terms;
+    same = refl;
+    shown = shown;
+    calls_are = sym (ap calls_in is ∙ calls-beside (said t).stack (moment (OfCatch w r) (said t)) refl);
+    goes = λ rest at j looks tried fronts.
+        came_back rest at j looks tried fronts (said t).stack (moment (OfCatch w r) (said t)) is
+        ∙ ap (λ (f : ℕ). Goes (state_from (said t).goals (stack_of rest at j (said t).stack) (said t).bindings f spec.Failing m.steps m.events.items m.front looks tried fronts)) (sym fresh)
+        ∙ ap (λ (md : Mode). Goes (state_from (said t).goals (stack_of rest at j (said t).stack) (said t).bindings (said t).fresh (mode_of md) m.steps m.events.items m.front looks tried fronts)) (sym failing);
   }
 
   -- no step is left
@@ -184,3 +204,7 @@ lastly-is d (x ∷ xs) y = lastly-is x xs y
 pub newest-open : {C : Type 0} (stack ss : List (Saved C)) (s : Saved C) (b : Bool) → HasNewest stack b → stack ≡ ss ++ s ∷ [] → is_open s.turn ≡ b
 newest-open stack ss s b (us, (u, (is, left))) e =
     ap (λ (r : Saved _). is_open r.turn) (sym (lastly-is s ss s) ∙ ap (lastly s) (sym e ∙ is) ∙ lastly-is s us u) ∙ left
+
+pub newest-catch : {C : Type 0} (stack ss : List (Saved C)) (s : Saved C) (b : Bool) → HasCatch stack b → stack ≡ ss ++ s ∷ [] → is_catch s.turn ≡ b
+newest-catch stack ss s b (us, (u, (is, left))) e =
+    ap (λ (r : Saved _). is_catch r.turn) (sym (lastly-is s ss s) ∙ ap (lastly s) (sym e ∙ is) ∙ lastly-is s us u) ∙ left

@@ -3,11 +3,14 @@
 use Rattle.std.proofs.Common.{◌≡◌, ℕ, zero, suc, ◌+◌, ◌-◌, ◌<◌, ◌≤◌, List, [], ◌∷◌, ◌++◌, Bool, true, false, length, drop, refl, sym, ap, subst, arith, inl, inr, length-drop}
 use Rattle.std.specs.Prelude.{Option, Some, None, ◌⊎◌, ◌==◌, if◌then◌else◌, ◌&&◌, codes, nat_lt}
 use Rattle.prolog_terms.specs.Tree.{Tree, Trees, variable, integer, atom, compound, none, more, count}
-use Rattle.prolog_terms.specs.Clauses.{is_named}
-use Rattle.wam_machine.specs.Control.{Control, True, Fail, Cut, Repeat, Both, Either, IfElse, If, Not, Call, Once, Equal, User, control_of, control_with_none, control_with_one, control_of_either, control_with_two, control_with_more}
+use Rattle.prolog_terms.specs.Clauses.{is_named, call_term}
+use Rattle.prolog_terms.specs.Substitutions.{renamed, beyond}
+use Rattle.std.proofs.lemmas.Bool.{ltb-true}
+use Rattle.term_unifier.specs.Unifier.{unifier}
+use Rattle.wam_machine.specs.Control.{Control, True, Fail, Cut, Repeat, Both, Either, IfElse, If, Not, Call, Once, Catch, Throw, Halt, HaltWith, Equal, User, control_of, control_with_none, control_with_one, control_of_either, control_with_two, control_with_three, control_with_more}
 use Rattle.wam_machine.specs.declared.run.RunEnd.{RunEnd}
 use Rattle.wam_machine.specs.declared.run.RunEnd.TheVariants.{Exhausted, Ball, Spent}
-use Rattle.wam_machine.specs.Machine.{Next, Do, ConditionEnd, NotEnd, Alternative, Clauses, Right, Again, NotMark, Choice, Mode, Going, Failing, Raising, State, Setting, Report, Outcome, Goes, Ends, Unfit, no_more, made_all, over, stepping, onwards, cut_to, trying, repeating, performing, doing, goal_move, answer, back_to, taken, move, Runs, ends, goes, beginning, Misfits, unfit, later, HasTranscript}
+use Rattle.wam_machine.specs.Machine.{Next, Do, ConditionEnd, NotEnd, CatchEnd, Alternative, Clauses, Right, Again, NotMark, CatchMark, Choice, Mode, Going, Failing, Raising, State, Setting, Report, Outcome, Goes, Ends, Unfit, no_more, made_all, over, stepping, onwards, height, cut_to, cut_back, bound_further, active_catch, recovering, reaching, reached, caught, trying, repeating, performing, doing, goal_move, answer, back_to, taken, move, Runs, ends, goes, beginning, Misfits, unfit, later, HasTranscript}
 use Rattle.wam_machine.proofs.Laws.{Keeps, Within, trying-keeps, performing-keeps, move-within}
 
 -- a step is taken, the run is over, or the move doesn't fit
@@ -57,6 +60,7 @@ goals_weight [] = 0
 goals_weight (Do g h ∷ rest) = weight g + goals_weight rest
 goals_weight (ConditionEnd h ∷ rest) = suc (goals_weight rest)
 goals_weight (NotEnd h ∷ rest) = suc (goals_weight rest)
+goals_weight (CatchEnd h ∷ rest) = suc (goals_weight rest)
 
 -- a conjunction is heavier than its parts
 abbrev Lighter : ℕ → Control → Type 0
@@ -71,7 +75,8 @@ light_none w n =
     choose w (is_named (codes "true") n) _ _ (λ a b e. cc e) (
     choose w (is_named (codes "fail") n) _ _ (λ a b e. cc e) (
     choose w (is_named (codes "!") n) _ _ (λ a b e. cc e) (
-    choose w (is_named (codes "repeat") n) _ _ (λ a b e. cc e) (λ a b e. cc e))))
+    choose w (is_named (codes "repeat") n) _ _ (λ a b e. cc e) (
+    choose w (is_named (codes "halt") n) _ _ (λ a b e. cc e) (λ a b e. cc e)))))
 
 light_both : (a b : Tree) → Lighter (suc (weight a + (weight b + 0))) (Both a b)
 light_both a b c d e = go (left e) (right e)
@@ -98,7 +103,9 @@ light_one : (w : ℕ) (f : List ℕ) (t : Tree) → Lighter w (control_with_one 
 light_one w f t =
     choose w (is_named (codes "call") f) _ _ (λ a b e. cc e) (
     choose w (is_named (codes "once") f) _ _ (λ a b e. cc e) (
-    choose w (is_named (codes "\\+") f) _ _ (λ a b e. cc e) (λ a b e. cc e)))
+    choose w (is_named (codes "\\+") f) _ _ (λ a b e. cc e) (
+    choose w (is_named (codes "throw") f) _ _ (λ a b e. cc e) (
+    choose w (is_named (codes "halt") f) _ _ (λ a b e. cc e) (λ a b e. cc e)))))
 
 light_two : (f : List ℕ) (t u : Tree) → Lighter (suc (weight t + (weight u + 0))) (control_with_two f t u)
 light_two f t u =
@@ -107,6 +114,11 @@ light_two f t u =
     choose _ (is_named (codes "->") f) _ _ (λ a b e. cc e) (
     choose _ (is_named (codes "=") f) _ _ (λ a b e. cc e) (
     choose _ (is_named (codes "call") f) _ _ (λ a b e. cc e) (λ a b e. cc e)))))
+
+light_three : (w : ℕ) (f : List ℕ) (t u v : Tree) → Lighter w (control_with_three f t u v)
+light_three w f t u v =
+    choose w (is_named (codes "catch") f) _ _ (λ a b e. cc e) (
+    choose w (is_named (codes "call") f) _ _ (λ a b e. cc e) (λ a b e. cc e))
 
 light_more : (w : ℕ) (f : List ℕ) (t : Tree) (ts : Trees) → Lighter w (control_with_more f t ts)
 light_more w f t ts = choose w (is_named (codes "call") f && nat_lt (count ts) 8) _ _ (λ a b e. cc e) (λ a b e. cc e)
@@ -118,7 +130,8 @@ light (atom n) a b e = light_none 1 n a b (cc e)
 light (compound f none) a b e = absurd (cc e)
 light (compound f (more t none)) a b e = light_one _ f t a b (cc e)
 light (compound f (more t (more u none))) a b e = light_two f t u a b (cc e)
-light (compound f (more t (more u (more v ts)))) a b e = light_more _ f t (more u (more v ts)) a b (cc e)
+light (compound f (more t (more u (more v none)))) a b e = light_three _ f t u v a b (cc e)
+light (compound f (more t (more u (more v (more w ts))))) a b e = light_more _ f t (more u (more v (more w ts))) a b (cc e)
 
 -- ---- each state settles
 
@@ -148,6 +161,10 @@ doing_good x goal cut s r (If c t) e next = inl (performed x goal cut s r (If c 
 doing_good x goal cut s r (Not g) e next = inl (performed x goal cut s r (Not g) e)
 doing_good x goal cut s r (Call g added) e next = inl (performed x goal cut s r (Call g added) e)
 doing_good x goal cut s r (Once g) e next = inl (performed x goal cut s r (Once g) e)
+doing_good x goal cut s r (Catch g c f) e next = inl (performed x goal cut s r (Catch g c f) e)
+doing_good x goal cut s r (Throw b) e next = inl (performed x goal cut s r (Throw b) e)
+doing_good x goal cut s r Halt e next = inl (performed x goal cut s r Halt e)
+doing_good x goal cut s r (HaltWith n) e next = inl (performed x goal cut s r (HaltWith n) e)
 doing_good x goal cut s r (Equal a b) e next = inl (performed x goal cut s r (Equal a b) e)
 doing_good x goal cut s r (User i) e next = inl (performed x goal cut s r (User i) e)
 
@@ -161,6 +178,7 @@ module _ (x : Setting) (k : ℕ) (smaller : (s : State) → length s.stack < k �
   taken_good s (Right goal cut) lt = inl (stepping-stops x s (onwards (Do goal cut ∷ [])) (λ t. refl))
   taken_good s Again lt = inl (stepping-stops x s repeating (λ t. refl))
   taken_good s NotMark lt = inr (s, refl, refl, smaller s lt)
+  taken_good s (CatchMark c r) lt = inr (record s { mode = Failing }, refl, refl, smaller (record s { mode = Failing }) lt)
 
   failing_settles : (s : State) (st : List Choice) → length st < suc k → Settles x (record s { mode = Failing; stack = st })
   failing_settles s [] lt = stops (over-stops x (record s { mode = Failing; stack = [] }) Exhausted s.steps)
@@ -181,6 +199,44 @@ module _ (x : Setting) (k : ℕ) (smaller : (s : State) → length s.stack < k �
       fewer a b l = omega (arith, lw)
   going_settles (suc w) s (ConditionEnd h ∷ rest) st lw lt = moves refl refl (going_settles w s rest (cut_to h st) (omega (arith, lw)) (cut-length h st (suc k) lt))
   going_settles (suc w) s (NotEnd h ∷ rest) st lw lt = moves refl refl (failing_settles (record s { goals = rest }) (cut_to h st) (cut-length h st (suc k) lt))
+  going_settles (suc w) s (CatchEnd h ∷ rest) st lw lt =
+      go (length st == h) refl (going_settles w s rest (cut_to (h - 1) st) (omega (arith, lw)) (cut-length (h - 1) st (suc k) lt)) (going_settles w s rest st (omega (arith, lw)) lt)
+    where
+      go : (b : Bool) → (length st == h) ≡ b → Settles x (record s { mode = Going; goals = rest; stack = cut_to (h - 1) st }) → Settles x (record s { mode = Going; goals = rest; stack = st })
+          → Settles x (record s { mode = Going; goals = CatchEnd h ∷ rest; stack = st })
+      go true e one other = moves (rw e refl) refl one
+      go false e one other = moves (rw e refl) refl other
+
+  recovering_good : (s t : State) (ball recovery : Tree) (o : Option (ℕ → Tree)) → t.steps ≡ s.steps → length t.stack < k → Good x s (recovering ball recovery t o)
+  recovering_good s t ball recovery None e lt = inr (record t { mode = Raising ball }, refl, e, smaller (record t { mode = Raising ball }) lt)
+  recovering_good s t ball recovery (Some m) e lt =
+      let u : State = bound_further m (record t { goals = Do (call_term recovery) (height t) ∷ t.goals }) in inr (u, refl, e, smaller u lt)
+
+  reaching_good : (s : State) (ball : Tree) (below : List Choice) (c : Choice) (a : Alternative) → length below < k → Good x s (reaching ball s below c a)
+  reaching_good s ball below c (CatchMark catcher recovery) lt =
+      recovering_good s (record (back_to s c below) { fresh = s.fresh + beyond ball }) ball recovery (unifier (renamed s.fresh ball) catcher) refl lt
+  reaching_good s ball below c (Clauses goal rest) lt = inr (record s { stack = below }, refl, refl, smaller (record s { stack = below }) lt)
+  reaching_good s ball below c (Right goal cut) lt = inr (record s { stack = below }, refl, refl, smaller (record s { stack = below }) lt)
+  reaching_good s ball below c Again lt = inr (record s { stack = below }, refl, refl, smaller (record s { stack = below }) lt)
+  reaching_good s ball below c NotMark lt = inr (record s { stack = below }, refl, refl, smaller (record s { stack = below }) lt)
+
+  reached_good : (s : State) (ball : Tree) (st : List Choice) → length st < suc k → Good x s (reached x ball s st)
+  reached_good s ball [] lt = inl (over-stops x s (Ball ball) s.steps)
+  reached_good s ball (c ∷ below) lt = reaching_good s ball below c c.what (omega arith)
+
+  caught_good : (s : State) (ball : Tree) (o : Option ℕ) → length s.stack < suc k → Good x s (caught x ball s o)
+  caught_good s ball None lt = inl (over-stops x s (Ball ball) s.steps)
+  caught_good s ball (Some h) lt = go (nat_lt h (height s)) refl
+    where
+      lower : h < length s.stack → length (cut_to h s.stack) < k
+      lower l = let e : length (drop (length s.stack - h) s.stack) ≡ length s.stack - (length s.stack - h) = length-drop (length s.stack - h) s.stack in omega (arith, lt)
+
+      go : (b : Bool) → nat_lt h (height s) ≡ b → Good x s (if b then Goes (cut_back h s) else reached x ball s s.stack)
+      go true e = inr (cut_back h s, refl, refl, smaller (cut_back h s) (lower (ltb-true h (height s) e)))
+      go false e = reached_good s ball s.stack lt
+
+  raising_settles : (s : State) (ball : Tree) → length s.stack < suc k → Settles x (record s { mode = Raising ball })
+  raising_settles s ball lt = settles_by x (record s { mode = Raising ball }) (caught_good (record s { mode = Raising ball }) ball (active_catch s.goals) lt)
 
 settles_within : (x : Setting) (k : ℕ) (s : State) → length s.stack < k → Settles x s
 settles_within x zero s lt = absurd (nothing lt)
@@ -192,7 +248,7 @@ settles_within x (suc k) s lt = by_mode s.mode (settles_within x k)
     by_mode : (m : Mode) → ((t : State) → length t.stack < k → Settles x t) → Settles x (record s { mode = m })
     by_mode Going below = going_settles x k below (suc (goals_weight s.goals)) s s.goals s.stack (omega arith) lt
     by_mode Failing below = failing_settles x k below s s.stack lt
-    by_mode (Raising ball) below = stops (over-stops x (record s { mode = Raising ball }) (Ball ball) s.steps)
+    by_mode (Raising ball) below = raising_settles x k below s ball lt
 
 -- from each state a step is taken, or the run is over or doesn't fit, after finitely many moves without a step
 settles : (x : Setting) (s : State) → Settles x s

@@ -11,7 +11,7 @@ use Rattle.wam_machine.specs.declared.terms.Alternative.{Alternative}
 use Rattle.wam_machine.specs.declared.terms.Alternative.TheVariants as is
 use Rattle.wam_machine.specs.declared.terms.Choice.{Choice}
 use Rattle.wam_machine.specs.declared.terms.Terms.{Terms}
-use Rattle.wam_machine.specs.Terms.{Saved, said, saved_of, turn_of, is_open, is_any_open, HasNewest}
+use Rattle.wam_machine.specs.Terms.{Saved, Turn, said, saved_of, turn_of, is_open, is_any_open, is_catch, HasNewest, HasCatch}
 
 -- ---- the last of a list
 
@@ -31,32 +31,47 @@ last_some {A} (x ∷ xs) y e = go x xs (e ∙ ap (slice_get (x ∷ xs)) (let n :
 
 -- ---- what it is
 
-mark-closed : {C : Type 0} (tree : Cell → Tree) (what : Alternative C) → what ≡ is.NotMark → is_open (turn_of tree what) ≡ false
-mark-closed tree what e = ap (λ (w : Alternative _). is_open (turn_of tree w)) e
+-- whether it is an alternative, and whether it is the mark of a `catch`
+abbrev pub IsSort : {C : Type 0} → Turn C → Bool → Bool → Type 0
+IsSort turn b d = (is_open turn ≡ b) × (is_catch turn ≡ d)
 
-other-open : {C : Type 0} (tree : Cell → Tree) (what : Alternative C) → (what ≡ is.NotMark → ⊥) → is_open (turn_of tree what) ≡ true
-other-open tree (is.Clauses c) h = refl
-other-open tree (is.Right c cut) h = refl
-other-open tree is.Again h = refl
-other-open tree is.NotMark h = absurd (h refl)
+mark-sort : {C : Type 0} (tree : Cell → Tree) (what : Alternative C) → what ≡ is.NotMark → IsSort (turn_of tree what) false false
+mark-sort tree what e = (ap (λ (w : Alternative _). is_open (turn_of tree w)) e, ap (λ (w : Alternative _). is_catch (turn_of tree w)) e)
+
+catch-sort : {C : Type 0} (tree : Cell → Tree) (what : Alternative C) (c r : Cell) → what ≡ is.CatchMark c r → IsSort (turn_of tree what) false true
+catch-sort tree what c r e = (ap (λ (w : Alternative _). is_open (turn_of tree w)) e, ap (λ (w : Alternative _). is_catch (turn_of tree w)) e)
+
+other-sort : {C : Type 0} (tree : Cell → Tree) (what : Alternative C) → (what ≡ is.NotMark → ⊥) → ((c r : Cell) → what ≡ is.CatchMark c r → ⊥)
+    → IsSort (turn_of tree what) true false
+other-sort tree (is.Clauses c) h k = (refl, refl)
+other-sort tree (is.Right c cut) h k = (refl, refl)
+other-sort tree is.Again h k = (refl, refl)
+other-sort tree is.NotMark h k = absurd (h refl)
+other-sort tree (is.CatchMark c r) h k = absurd (k c r refl)
 
 module _ {C : Type 0} (t : Terms C) (items : List (Choice C)) (same : items ≡ t.choices.items) where
   pub top-none : None ≡ slice_get items (length items - 1) → (said t).stack ≡ []
   unfolding said
   top-none e = ap (map (saved_of t.names t.store t.frames.items)) (sym same ∙ last_none items e)
 
-  top : (c : Choice C) (b : Bool) → Some c ≡ slice_get items (length items - 1) → is_open (saved_of t.names t.store t.frames.items c).turn ≡ b → HasNewest (said t).stack b
+  top : (c : Choice C) (b d : Bool) → Some c ≡ slice_get items (length items - 1) → IsSort (saved_of t.names t.store t.frames.items c).turn b d
+      → HasNewest (said t).stack b × HasCatch (said t).stack d
   unfolding said
-  top c b e o =
+  top c b d e o =
       let h = last_some items c e in
       let f = saved_of t.names t.store t.frames.items in
-      (map f h.0, (f c, (ap (map f) (sym same ∙ h.1) ∙ map-append f h.0 (c ∷ []), o)))
+      let is = ap (map f) (sym same ∙ h.1) ∙ map-append f h.0 (c ∷ []) in
+      ((map f h.0, (f c, (is, o.0))), (map f h.0, (f c, (is, o.1))))
 
-  pub top-mark : (c : Choice C) → Some c ≡ slice_get items (length items - 1) → c.what ≡ is.NotMark → HasNewest (said t).stack false
-  top-mark c e m = top c false e (mark-closed (term_of t.names (back c.mark t.store)) c.what m)
+  pub top-mark : (c : Choice C) → Some c ≡ slice_get items (length items - 1) → c.what ≡ is.NotMark → HasNewest (said t).stack false × HasCatch (said t).stack false
+  top-mark c e m = top c false false e (mark-sort (term_of t.names (back c.mark t.store)) c.what m)
 
-  pub top-open : (c : Choice C) → Some c ≡ slice_get items (length items - 1) → (c.what ≡ is.NotMark → ⊥) → HasNewest (said t).stack true
-  top-open c e m = top c true e (other-open (term_of t.names (back c.mark t.store)) c.what m)
+  pub top-catch : (c : Choice C) (a r : Cell) → Some c ≡ slice_get items (length items - 1) → c.what ≡ is.CatchMark a r → HasNewest (said t).stack false × HasCatch (said t).stack true
+  top-catch c a r e m = top c false true e (catch-sort (term_of t.names (back c.mark t.store)) c.what a r m)
+
+  pub top-open : (c : Choice C) → Some c ≡ slice_get items (length items - 1) → (c.what ≡ is.NotMark → ⊥) → ((a r : Cell) → c.what ≡ is.CatchMark a r → ⊥)
+      → HasNewest (said t).stack true × HasCatch (said t).stack false
+  top-open c e m k = top c true false e (other-sort (term_of t.names (back c.mark t.store)) c.what m k)
 
 -- ---- one after another
 

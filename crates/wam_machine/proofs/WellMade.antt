@@ -1,10 +1,10 @@
 -- Over clauses with bodies, each goal is a body at its turn.
 use Rattle.std.proofs.Common.{◌≡◌, ℕ, zero, suc, ◌+◌, ◌-◌, List, [], ◌∷◌, ◌++◌, Bool, true, false, length, take, map, refl, subst}
-use Rattle.std.specs.Prelude.{All, IsTrue, IfSome, IsSome, Option, Some, None, ◌==◌, ◌&&◌, ◌||◌, if◌then◌else◌, nat_le, nat_lt, codes, filter_map, slice_get, option_and_then}
+use Rattle.std.specs.Prelude.{pos, All, IsTrue, IfSome, IsSome, Option, Some, None, ◌==◌, ◌&&◌, ◌||◌, if◌then◌else◌, nat_le, nat_lt, codes, filter_map, slice_get, option_and_then}
 use Rattle.std.specs.List.{cons_option}
 use Rattle.std.proofs.lemmas.List.Elements.{All-nil, All-cons, All-head, All-tail, All-append, All-take, All-drop}
 use Rattle.prolog_terms.specs.Tree.{Tree, Trees, variable, integer, atom, compound, none, more, count}
-use Rattle.prolog_terms.specs.Substitutions.{substituted, renamed}
+use Rattle.prolog_terms.specs.Substitutions.{substituted, renamed, beyond}
 use Rattle.prolog_terms.specs.Clauses.{is_named, is_connective, is_body, body_of, call_term}
 use Rattle.prolog_terms.specs.Faults.{two}
 use Rattle.prolog_terms.specs.declared.entry.Clause.{Clause}
@@ -15,10 +15,10 @@ use Rattle.journal_base.specs.Journal.{Journal, number_of, clause_named, added}
 use Rattle.journal_base.specs.Candidates.{candidates}
 use Rattle.journal_base.specs.Keys.{keys}
 use Rattle.term_unifier.specs.Unifier.{unifier}
-use Rattle.wam_machine.specs.Control.{Control, True, Fail, Cut, Repeat, Both, Either, IfElse, If, Not, Call, Once, Equal, User, control_of, control_with_none, control_with_one, control_of_either, control_with_two, control_with_more, or_call, first_body, with_added, is_true_atom}
+use Rattle.wam_machine.specs.Control.{Control, True, Fail, Cut, Repeat, Both, Either, IfElse, If, Not, Call, Once, Catch, Throw, Halt, HaltWith, Equal, User, control_of, control_with_none, control_with_one, control_of_either, control_with_two, control_with_three, control_with_more, or_call, first_body, with_added, is_true_atom}
 use Rattle.wam_machine.specs.declared.run.RunEnd.{RunEnd}
-use Rattle.wam_machine.specs.declared.run.RunEnd.TheVariants.{Exhausted, Ball, Spent}
-use Rattle.wam_machine.specs.Machine.{Next, Do, ConditionEnd, NotEnd, Alternative, Clauses, Right, Again, NotMark, Choice, Mode, Going, Failing, Raising, State, Setting, Outcome, Goes, Ends, Unfit, no_more, made_all, over, stepping, onwards, pushed, height, next_under, solving, numbering, body_from, entering, leaving, trying, candidate_clauses, looked, called, calling, call_with, raises, running, calling_added, denying, repeating, performing, doing, going, back_to, taken, failing, raising, move, beginning, CanBeDone, HasBody, CanBeTaken, CanGoBack, IsWellMade, HasBodies, GoalsAreBodies}
+use Rattle.wam_machine.specs.declared.run.RunEnd.TheVariants.{Exhausted, Ball, Spent, Halted}
+use Rattle.wam_machine.specs.Machine.{Next, Do, ConditionEnd, NotEnd, CatchEnd, Alternative, Clauses, Right, Again, NotMark, CatchMark, Choice, Mode, Going, Failing, Raising, State, Setting, Outcome, Goes, Ends, Unfit, no_more, made_all, over, stepping, onwards, pushed, height, next_under, solving, numbering, body_from, entering, leaving, trying, candidate_clauses, looked, called, calling, call_with, raises, running, calling_added, denying, catching, throwing, halting, cut_back, active_catch, recovering, reaching, reached, caught, repeating, performing, doing, going, back_to, taken, failing, raising, move, beginning, CanBeDone, HasBody, CanBeTaken, CanGoBack, IsWellMade, HasBodies, GoalsAreBodies}
 use Rattle.prolog_terms.proofs.Converted.{both_true, first_true, second_true, is_converted}
 
 -- ---- bodies
@@ -51,6 +51,10 @@ HasParts (If c t) = (is_body c ≡ true) × (is_body t ≡ true)
 HasParts (Not g) = Unit {0}
 HasParts (Call g added) = Unit {0}
 HasParts (Once g) = Unit {0}
+HasParts (Catch g c r) = Unit {0}
+HasParts (Throw b) = Unit {0}
+HasParts Halt = Unit {0}
+HasParts (HaltWith n) = Unit {0}
 HasParts (Equal a b) = Unit {0}
 HasParts (User i) = Unit {0}
 
@@ -59,10 +63,13 @@ choose true c d h k = h
 choose false c d h k = k
 
 none_parts : (a : List ℕ) → HasParts (control_with_none a)
-none_parts a = choose (is_named (codes "true") a) _ _ tt (choose (is_named (codes "fail") a) _ _ tt (choose (is_named (codes "!") a) _ _ tt (choose (is_named (codes "repeat") a) _ _ tt tt)))
+none_parts a = choose (is_named (codes "true") a) _ _ tt (choose (is_named (codes "fail") a) _ _ tt (choose (is_named (codes "!") a) _ _ tt (choose (is_named (codes "repeat") a) _ _ tt (choose (is_named (codes "halt") a) _ _ tt tt))))
 
 one_parts : (f : List ℕ) (a : Tree) → HasParts (control_with_one f a)
-one_parts f a = choose (is_named (codes "call") f) _ _ tt (choose (is_named (codes "once") f) _ _ tt (choose (is_named (codes "\\+") f) _ _ tt tt))
+one_parts f a = choose (is_named (codes "call") f) _ _ tt (choose (is_named (codes "once") f) _ _ tt (choose (is_named (codes "\\+") f) _ _ tt (choose (is_named (codes "throw") f) _ _ tt (choose (is_named (codes "halt") f) _ _ tt tt))))
+
+three_parts : (f : List ℕ) (a b c : Tree) → HasParts (control_with_three f a b c)
+three_parts f a b c = choose (is_named (codes "catch") f) _ _ tt (choose (is_named (codes "call") f) _ _ tt tt)
 
 more_parts : (f : List ℕ) (a : Tree) (ts : Trees) → HasParts (control_with_more f a ts)
 more_parts f a ts = choose (is_named (codes "call") f && nat_lt (count ts) 8) _ _ tt tt
@@ -104,7 +111,8 @@ parts (atom a) h = (control_with_none a, refl, none_parts a)
 parts (compound f none) h = (User (record { name = f; arity = 0 }), refl, tt)
 parts (compound f (more a none)) h = (control_with_one f a, refl, one_parts f a)
 parts (compound f (more a (more b none))) h = (control_with_two f a b, refl, two_parts f a b h)
-parts (compound f (more a (more b (more c ts)))) h = (control_with_more f a (more b (more c ts)), refl, more_parts f a (more b (more c ts)))
+parts (compound f (more a (more b (more c none)))) h = (control_with_three f a b c, refl, three_parts f a b c)
+parts (compound f (more a (more b (more c (more d ts))))) h = (control_with_more f a (more b (more c (more d ts))), refl, more_parts f a (more b (more c (more d ts))))
 
 pub body_controlled : (g : Tree) → IsTrue (is_body g) → IsSome (control_of g)
 body_controlled g h = rw ((parts g h).1) refl
@@ -121,6 +129,7 @@ next_under-done : (m : ℕ → Tree) (n : Next) → CanBeDone n → CanBeDone (n
 next_under-done m (Do g cut) h = is_body-substituted m g h
 next_under-done m (ConditionEnd k) h = tt
 next_under-done m (NotEnd k) h = tt
+next_under-done m (CatchEnd k) h = tt
 
 all_under-done : (m : ℕ → Tree) (ns : List Next) → All CanBeDone ns → All CanBeDone (map (next_under m) ns)
 all_under-done m [] h = All-nil CanBeDone
@@ -207,6 +216,32 @@ denying-makes goal s (Some body) b h = record {
   stack = (pushed-well NotMark s tt h).stack;
 }
 
+catching-makes : (goal catcher recovery : Tree) (s : State) (o : Option Tree) → IfSome o (λ b. IsTrue (is_body b)) → IsWellMade s → Makes (catching goal catcher recovery s o)
+catching-makes goal catcher recovery s None b h = record { goals = h.goals; stack = h.stack }
+catching-makes goal catcher recovery s (Some body) b h = record {
+  goals = first_done body (suc (height s)) (CatchEnd (suc (height s)) ∷ s.goals) b (All-cons CanBeDone (CatchEnd (suc (height s))) s.goals tt h.goals);
+  stack = (pushed-well (CatchMark catcher recovery) s tt h).stack;
+}
+
+throwing-makes : (ball : Tree) (s : State) → IsWellMade s → Makes (throwing ball s)
+throwing-makes (variable n) s h = record { goals = h.goals; stack = h.stack }
+throwing-makes (integer z) s h = record { goals = h.goals; stack = h.stack }
+throwing-makes (atom a) s h = record { goals = h.goals; stack = h.stack }
+throwing-makes (compound f ts) s h = record { goals = h.goals; stack = h.stack }
+
+over-makes : (x : Setting) (s : State) (e : RunEnd) → Makes (over x s e)
+over-makes x s e = go (no_more s.fronts && made_all x)
+  where
+    go : (b : Bool) → Makes (if b then Ends (record { events = s.events; looks = s.looks; tried = s.tried; steps = s.steps; end = e }) else Unfit)
+    go true = tt
+    go false = tt
+
+halting-makes : (x : Setting) (code : Tree) (s : State) → IsWellMade s → Makes (halting x code s)
+halting-makes x (variable n) s h = record { goals = h.goals; stack = h.stack }
+halting-makes x (integer z) s h = over-makes x s (Halted z)
+halting-makes x (atom a) s h = record { goals = h.goals; stack = h.stack }
+halting-makes x (compound f ts) s h = record { goals = h.goals; stack = h.stack }
+
 calling_added-makes : (goal : Tree) (added : Trees) (s : State) → IsWellMade s → Makes (calling_added goal added s)
 calling_added-makes (variable n) added s h = record { goals = h.goals; stack = h.stack }
 calling_added-makes (integer z) added s h = record { goals = h.goals; stack = h.stack }
@@ -235,15 +270,12 @@ performing-makes x goal cut (If c t) s b p h = record {
 performing-makes x goal cut (Not g) s b p h = denying-makes g s (body_of g) (is_converted g) h
 performing-makes x goal cut (Call g added) s b p h = calling_added-makes g added s h
 performing-makes x goal cut (Once g) s b p h = record { goals = first_done (two (codes "->") (call_term g) (atom (codes "true"))) cut s.goals refl h.goals; stack = h.stack }
+performing-makes x goal cut (Catch g c r) s b p h = catching-makes g c r s (body_of g) (is_converted g) h
+performing-makes x goal cut (Throw t) s b p h = throwing-makes t s h
+performing-makes x goal cut Halt s b p h = over-makes x s (Halted (pos 0))
+performing-makes x goal cut (HaltWith n) s b p h = halting-makes x n s h
 performing-makes x goal cut (Equal l r) s b p h = solving-makes [] s (unifier l r) (All-nil CanBeDone) h
 performing-makes x goal cut (User i) s b p h = calling-makes x s goal i b h
-
-over-makes : (x : Setting) (s : State) (e : RunEnd) → Makes (over x s e)
-over-makes x s e = go (no_more s.fronts && made_all x)
-  where
-    go : (b : Bool) → Makes (if b then Ends (record { events = s.events; looks = s.looks; tried = s.tried; steps = s.steps; end = e }) else Unfit)
-    go true = tt
-    go false = tt
 
 stepping-makes : (x : Setting) (s : State) (then_ : State → Outcome) → Makes (then_ (record s { steps = suc s.steps })) → Makes (stepping x s then_)
 stepping-makes x s then_ h = go (s.steps == x.budget)
@@ -267,6 +299,10 @@ doing-makes x goal cut s (If c t) b p h = performed-makes x goal cut s (If c t) 
 doing-makes x goal cut s (Not g) b p h = performed-makes x goal cut s (Not g) b p h
 doing-makes x goal cut s (Call g added) b p h = performed-makes x goal cut s (Call g added) b p h
 doing-makes x goal cut s (Once g) b p h = performed-makes x goal cut s (Once g) b p h
+doing-makes x goal cut s (Catch g c r) b p h = performed-makes x goal cut s (Catch g c r) b p h
+doing-makes x goal cut s (Throw t) b p h = performed-makes x goal cut s (Throw t) b p h
+doing-makes x goal cut s Halt b p h = performed-makes x goal cut s Halt b p h
+doing-makes x goal cut s (HaltWith n) b p h = performed-makes x goal cut s (HaltWith n) b p h
 doing-makes x goal cut s (Equal l r) b p h = performed-makes x goal cut s (Equal l r) b p h
 doing-makes x goal cut s (User i) b p h = performed-makes x goal cut s (User i) b p h
 
@@ -277,16 +313,53 @@ going-makes x s (Do g cut ∷ rest) b d h =
     rw (k.1) (doing-makes x g cut (record s { goals = rest }) k.0 b k.2 (record { goals = All-tail CanBeDone (Do g cut) rest d; stack = h.stack }))
 going-makes x s (ConditionEnd k ∷ rest) b d h = record { goals = All-tail CanBeDone (ConditionEnd k) rest d; stack = All-drop CanGoBack (length s.stack - k) s.stack h.stack }
 going-makes x s (NotEnd k ∷ rest) b d h = record { goals = All-tail CanBeDone (NotEnd k) rest d; stack = All-drop CanGoBack (length s.stack - k) s.stack h.stack }
+going-makes x s (CatchEnd k ∷ rest) b d h = go (height s == k)
+  where
+    t : State
+    t = record s { goals = rest }
+
+    left : All CanBeDone rest
+    left = All-tail CanBeDone (CatchEnd k) rest d
+
+    go : (c : Bool) → IsWellMade (if c then cut_back (k - 1) t else t)
+    go true = record { goals = left; stack = All-drop CanGoBack (length s.stack - (k - 1)) s.stack h.stack }
+    go false = record { goals = left; stack = h.stack }
 
 taken-makes : (x : Setting) (s : State) (a : Alternative) → CanBeTaken a → IsWellMade s → Makes (taken x s a)
 taken-makes x s (Clauses goal rest) t h = stepping-makes x s (trying goal rest) (trying-makes goal rest (record s { steps = suc s.steps }) t (record { goals = h.goals; stack = h.stack }))
 taken-makes x s (Right goal cut) t h = stepping-makes x s (onwards (Do goal cut ∷ [])) (record { goals = first_done goal cut s.goals t h.goals; stack = h.stack })
 taken-makes x s Again t h = stepping-makes x s repeating (let k : IsWellMade (pushed Again s) = pushed-well Again s tt h in record { goals = k.goals; stack = k.stack })
 taken-makes x s NotMark t h = h
+taken-makes x s (CatchMark c r) t h = record { goals = h.goals; stack = h.stack }
 
 failing-makes : (x : Setting) (s : State) (st : List Choice) → All CanGoBack st → Makes (failing x s st)
 failing-makes x s [] h = over-makes x s Exhausted
 failing-makes x s (c ∷ below) h = taken-makes x (back_to s c below) c.what (All-head CanGoBack c below h).what (record { goals = (All-head CanGoBack c below h).goals; stack = All-tail CanGoBack c below h })
+
+recovering-makes : (ball recovery : Tree) (s : State) (o : Option (ℕ → Tree)) → IsWellMade s → Makes (recovering ball recovery s o)
+recovering-makes ball recovery s None h = record { goals = h.goals; stack = h.stack }
+recovering-makes ball recovery s (Some m) h =
+    record { goals = all_under-done m (Do (call_term recovery) (height s) ∷ s.goals) (first_done (call_term recovery) (height s) s.goals refl h.goals); stack = h.stack }
+
+reaching-makes : (ball : Tree) (s : State) (below : List Choice) (c : Choice) (a : Alternative) → CanGoBack c → All CanGoBack below → IsWellMade s → Makes (reaching ball s below c a)
+reaching-makes ball s below c (CatchMark catcher recovery) g w h =
+    recovering-makes ball recovery (record (back_to s c below) { fresh = s.fresh + beyond ball }) (unifier (renamed s.fresh ball) catcher) (record { goals = g.goals; stack = w })
+reaching-makes ball s below c (Clauses goal rest) g w h = record { goals = h.goals; stack = w }
+reaching-makes ball s below c (Right goal cut) g w h = record { goals = h.goals; stack = w }
+reaching-makes ball s below c Again g w h = record { goals = h.goals; stack = w }
+reaching-makes ball s below c NotMark g w h = record { goals = h.goals; stack = w }
+
+reached-makes : (x : Setting) (ball : Tree) (s : State) (st : List Choice) → All CanGoBack st → IsWellMade s → Makes (reached x ball s st)
+reached-makes x ball s [] w h = over-makes x s (Ball ball)
+reached-makes x ball s (c ∷ below) w h = reaching-makes ball s below c c.what (All-head CanGoBack c below w) (All-tail CanGoBack c below w) h
+
+caught-makes : (x : Setting) (ball : Tree) (s : State) (o : Option ℕ) → IsWellMade s → Makes (caught x ball s o)
+caught-makes x ball s None h = over-makes x s (Ball ball)
+caught-makes x ball s (Some n) h = go (nat_lt n (height s))
+  where
+    go : (b : Bool) → Makes (if b then Goes (cut_back n s) else reached x ball s s.stack)
+    go true = record { goals = h.goals; stack = All-drop CanGoBack (length s.stack - n) s.stack h.stack }
+    go false = reached-makes x ball s s.stack h.stack h
 
 pub move-makes : (x : Setting) (s : State) → HasBodies x.journal → IsWellMade s → Makes (move x s)
 move-makes x s b h = go s.mode
@@ -294,7 +367,7 @@ move-makes x s b h = go s.mode
     go : (m : Mode) → Makes (elim m [ Going ↦ going x s s.goals | Failing ↦ failing x s s.stack | Raising ball ↦ raising x s ball ])
     go Going = going-makes x s s.goals b h.goals h
     go Failing = failing-makes x s s.stack h.stack
-    go (Raising ball) = over-makes x s (Ball ball)
+    go (Raising ball) = caught-makes x ball s (active_catch s.goals) h
 
 pub goes-makes : (x : Setting) (s t : State) → HasBodies x.journal → IsWellMade s → move x s ≡ Goes t → IsWellMade t
 goes-makes x s t b h e = let P : Outcome → Type 0 = λ o. Makes o in subst P e (move-makes x s b h)

@@ -1,15 +1,16 @@
 -- What is seen of the stack.
 use Rattle.std.specs.Prelude.{◌≡◌, List, [], Option, Some, None, true, false}
-use Rattle.wam_machine.specs.Terms.{Turn, OfCall, OfRight, OfRepeat, OfNot, Saved, HasNewest}
+use Rattle.wam_machine.specs.Terms.{Turn, OfCall, OfRight, OfRepeat, OfNot, OfCatch, Saved, HasNewest, HasCatch}
 use Rattle.wam_machine.specs.declared.choices.Newest.{Newest}
-use Rattle.wam_machine.specs.declared.choices.Newest.TheVariants.{Nothing, Open, Mark}
+use Rattle.wam_machine.specs.declared.choices.Newest.TheVariants.{Nothing, Open, Mark, Catch}
 use Rattle.wam_machine.specs.declared.terms.Call.{Call}
 
 -- what the newest moment is
 abbrev pub IsNewest : {C : Type 0} → List (Saved C) → Newest → Type 0
 IsNewest stack Nothing = stack ≡ []
-IsNewest stack Open = HasNewest stack true
-IsNewest stack Mark = HasNewest stack false
+IsNewest stack Open = HasNewest stack true × HasCatch stack false
+IsNewest stack Mark = HasNewest stack false × HasCatch stack false
+IsNewest stack Catch = HasNewest stack false × HasCatch stack true
 
 -- the call with the cursor of the moment's call, where it is one
 abbrev pub IsCallOf : {C : Type 0} → Turn C → Option (Call C) → Type 0
@@ -21,3 +22,5 @@ IsCallOf OfRepeat None = Unit {0}
 IsCallOf OfRepeat (Some call) = ⊥
 IsCallOf OfNot None = Unit {0}
 IsCallOf OfNot (Some call) = ⊥
+IsCallOf (OfCatch c r) None = Unit {0}
+IsCallOf (OfCatch c r) (Some call) = ⊥

@@ -24,6 +24,14 @@ pub data Control : Type 0 where
   -- a goal with arguments added
   Call : (goal : Tree) (added : Trees) → Control
   Once : (goal : Tree) → Control
+  -- a goal; where a ball is raised in it that the catcher unifies with, the recovery is called
+  Catch : (goal catcher recovery : Tree) → Control
+  -- a ball is raised
+  Throw : (ball : Tree) → Control
+  -- the run is ended
+  Halt : Control
+  -- the run is ended, with a number
+  HaltWith : (code : Tree) → Control
   -- two terms are to be made one
   Equal : (left right : Tree) → Control
   -- any other goal, by its name and arity
@@ -35,6 +43,7 @@ control_with_none a =
     else if is_named (codes "fail") a then Fail
     else if is_named (codes "!") a then Cut
     else if is_named (codes "repeat") a then Repeat
+    else if is_named (codes "halt") a then Halt
     else User (record { name = a; arity = 0 })
 
 abbrev pub control_with_one : List ℕ → Tree → Control
@@ -42,6 +51,8 @@ control_with_one f a =
     if is_named (codes "call") f then Call a none
     else if is_named (codes "once") f then Once a
     else if is_named (codes "\\+") f then Not a
+    else if is_named (codes "throw") f then Throw a
+    else if is_named (codes "halt") f then HaltWith a
     else User (record { name = f; arity = 1 })
 
 -- a `;`: a condition with an else where the left side is a `->`
@@ -63,7 +74,13 @@ control_with_two f a b =
     else if is_named (codes "call") f then Call a (more b none)
     else User (record { name = f; arity = 2 })
 
--- with three arguments or more: `call` takes up to seven beside its goal
+abbrev pub control_with_three : List ℕ → Tree → Tree → Tree → Control
+control_with_three f a b c =
+    if is_named (codes "catch") f then Catch a b c
+    else if is_named (codes "call") f then Call a (more b (more c none))
+    else User (record { name = f; arity = 3 })
+
+-- with four arguments or more: `call` takes up to seven beside its goal
 abbrev pub control_with_more : List ℕ → Tree → Trees → Control
 control_with_more f a ts = if is_named (codes "call") f && nat_lt (count ts) 8 then Call a ts else User (record { name = f; arity = count ts + 1 })
 
@@ -75,7 +92,8 @@ control_of (atom a) = Some (control_with_none a)
 control_of (compound f none) = Some (User (record { name = f; arity = 0 }))
 control_of (compound f (more a none)) = Some (control_with_one f a)
 control_of (compound f (more a (more b none))) = Some (control_with_two f a b)
-control_of (compound f (more a (more b (more c ts)))) = Some (control_with_more f a (more b (more c ts)))
+control_of (compound f (more a (more b (more c none)))) = Some (control_with_three f a b c)
+control_of (compound f (more a (more b (more c (more d ts))))) = Some (control_with_more f a (more b (more c (more d ts))))
 
 -- ---- bodies
 

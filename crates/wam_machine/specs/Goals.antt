@@ -12,7 +12,7 @@ use Rattle.wam_machine.specs.Spine.{Part, Leaf, Joint, is_plain_goal}
 use Rattle.wam_machine.specs.Machine.{State, calling_added, raises, running, call_with}
 use Rattle.wam_machine.specs.Terms.{IsGoal, IsBuilt, built}
 use Rattle.wam_machine.specs.declared.control.Control.{Control}
-use Rattle.wam_machine.specs.declared.control.Control.TheVariants.{True, Fail, Cut, Repeat, Both, Either, IfElse, If, Not, Call, Once, Equal, User}
+use Rattle.wam_machine.specs.declared.control.Control.TheVariants.{True, Fail, Cut, Repeat, Both, Either, IfElse, If, Not, Call, Once, Catch, Throw, Halt, HaltWith, Equal, User}
 use Rattle.wam_machine.specs.declared.bodies.Kind.{Kind}
 use Rattle.wam_machine.specs.declared.bodies.Kind.TheVariants as kind
 use Rattle.wam_machine.specs.declared.bodies.Part.{Part as Met}
@@ -36,6 +36,10 @@ control_in tree (If c t) = spec.If (tree c) (tree t)
 control_in tree (Not g) = spec.Not (tree g)
 control_in tree (Call g added) = spec.Call (tree g) (trees_of tree added.items)
 control_in tree (Once g) = spec.Once (tree g)
+control_in tree (Catch g c r) = spec.Catch (tree g) (tree c) (tree r)
+control_in tree (Throw b) = spec.Throw (tree b)
+control_in tree Halt = spec.Halt
+control_in tree (HaltWith n) = spec.HaltWith (tree n)
 control_in tree (Equal a b) = spec.Equal (tree a) (tree b)
 control_in tree (User i) = spec.User i
 
@@ -52,6 +56,10 @@ AreAmong P (If c t) = P c × P t
 AreAmong P (Not g) = P g
 AreAmong P (Call g added) = P g × All P added.items × (length added.items < 8)
 AreAmong P (Once g) = P g
+AreAmong P (Catch g c r) = P g × P c × P r
+AreAmong P (Throw b) = P b
+AreAmong P Halt = Unit {0}
+AreAmong P (HaltWith n) = P n
 AreAmong P (Equal a b) = P a × P b
 AreAmong P (User i) = Unit {0}
 
@@ -68,6 +76,10 @@ AreGoals P (If c t) = P c × P t
 AreGoals P (Not g) = Unit {0}
 AreGoals P (Call g added) = Unit {0}
 AreGoals P (Once g) = Unit {0}
+AreGoals P (Catch g c r) = Unit {0}
+AreGoals P (Throw b) = Unit {0}
+AreGoals P Halt = Unit {0}
+AreGoals P (HaltWith n) = Unit {0}
 AreGoals P (Equal a b) = Unit {0}
 AreGoals P (User i) = Unit {0}
 
@@ -93,7 +105,7 @@ IsArrow t goal found =
     MatchOption found ((e : Tree) → control_of_either goal e ≡ spec.Either goal e)
     (λ p. (IsBuilt t p.0 × IsBuilt t p.1) × ((e : Tree) → control_of_either goal e ≡ spec.IfElse (built t p.0) (built t p.1) e))
 
--- what the machine does beside calls and cuts, within one step
+-- what the machine does beside calls, cuts and the end of a run, within one step
 abbrev pub IsConstruct : Control → Type 0
 IsConstruct True = Unit {0}
 IsConstruct Fail = Unit {0}
@@ -106,6 +118,10 @@ IsConstruct (If c t) = Unit {0}
 IsConstruct (Not g) = Unit {0}
 IsConstruct (Call g added) = Unit {0}
 IsConstruct (Once g) = Unit {0}
+IsConstruct (Catch g c r) = Unit {0}
+IsConstruct (Throw b) = Unit {0}
+IsConstruct Halt = ⊥
+IsConstruct (HaltWith n) = ⊥
 IsConstruct (Equal a b) = Unit {0}
 IsConstruct (User i) = ⊥
 
@@ -122,6 +138,10 @@ IsSimple (If c t) = Unit {0}
 IsSimple (Not g) = Unit {0}
 IsSimple (Call g added) = Unit {0}
 IsSimple (Once g) = Unit {0}
+IsSimple (Catch g c r) = Unit {0}
+IsSimple (Throw b) = Unit {0}
+IsSimple Halt = Unit {0}
+IsSimple (HaltWith n) = Unit {0}
 IsSimple (Equal a b) = Unit {0}
 IsSimple (User i) = Unit {0}
 

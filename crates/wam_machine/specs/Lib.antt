@@ -5,6 +5,7 @@ pub mod Runs
 pub mod Terms
 pub mod Choices
 pub mod Goals
+pub mod Balls
 pub mod Beyond
 pub mod Cursors
 pub mod View

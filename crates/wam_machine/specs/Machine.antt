@@ -3,7 +3,7 @@
 --
 -- The goals that are still to be done stand with what their variables stand for: what is bound further is put into them too. So a
 -- state says nothing of how terms and bindings are kept.
-use Rattle.std.specs.Prelude.{IsTrue, IfSome, IsSome, All, ◌≡◌, ℕ, suc, ◌+◌, ◌-◌, ◌≤◌, ◌⊎◌, Bool, true, false, ◌==◌, ◌&&◌, List, [], ◌∷◌, ◌++◌, length, replicate, take, drop, nat_le, nat_lt, if◌then◌else◌, Option, Some, None, codes, filter_map, map}
+use Rattle.std.specs.Prelude.{IsTrue, IfSome, IsSome, All, ◌≡◌, ℕ, suc, pos, ◌+◌, ◌-◌, ◌≤◌, ◌⊎◌, Bool, true, false, ◌==◌, ◌&&◌, List, [], ◌∷◌, ◌++◌, length, replicate, take, drop, nat_le, nat_lt, if◌then◌else◌, Option, Some, None, codes, filter_map, map}
 use Rattle.std.specs.List.{list_any}
 use Rattle.prolog_terms.specs.Tree.{Tree, Trees, variable, integer, atom, compound, none, more, count}
 use Rattle.prolog_terms.specs.Substitutions.{substituted, numbered, renamed, beyond}
@@ -22,11 +22,11 @@ use Rattle.journal_base.specs.Candidates.{candidates}
 use Rattle.journal_base.specs.Calls.{Goal}
 use Rattle.journal_base.specs.View.{entries_by}
 use Rattle.term_unifier.specs.Unifier.{unifier}
-use Rattle.wam_machine.specs.Control.{Control, True, Fail, Cut, Repeat, Both, Either, IfElse, If, Not, Call, Once, Equal, User, control_of, first_body, with_added, body_goals}
+use Rattle.wam_machine.specs.Control.{Control, True, Fail, Cut, Repeat, Both, Either, IfElse, If, Not, Call, Once, Catch, Throw, Halt, HaltWith, Equal, User, control_of, first_body, with_added, body_goals}
 use Rattle.wam_machine.specs.declared.run.Event.{Event}
 use Rattle.wam_machine.specs.declared.run.Event.TheVariants.{Answer}
 use Rattle.wam_machine.specs.declared.run.RunEnd.{RunEnd}
-use Rattle.wam_machine.specs.declared.run.RunEnd.TheVariants.{Exhausted, Ball, Spent}
+use Rattle.wam_machine.specs.declared.run.RunEnd.TheVariants.{Exhausted, Ball, Spent, Halted}
 
 -- ---- states
 
@@ -38,6 +38,8 @@ pub data Next : Type 0 where
   ConditionEnd : (height : ℕ) → Next
   -- the end of the goal of a `\+`, and the height of the stack before it
   NotEnd : (height : ℕ) → Next
+  -- the end of the goal of a `catch`, and the height of the stack with the mark of the `catch` on it
+  CatchEnd : (height : ℕ) → Next
 
 pub data Alternative : Type 0 where
   -- the clauses that are left of a call
@@ -48,6 +50,8 @@ pub data Alternative : Type 0 where
   Again : Alternative
   -- The mark of a `\+`, which is no alternative: a failure that reaches it goes on behind the `\+`.
   NotMark : Alternative
+  -- The mark of a `catch`, which is no alternative either: a failure that reaches it goes further.
+  CatchMark : (catcher recovery : Tree) → Alternative
 
 -- an alternative, or a mark, with the goals that come after it and what each variable stood for at its moment
 pub record Choice : Type 0 where
@@ -173,6 +177,7 @@ abbrev pub next_under : (ℕ → Tree) → Next → Next
 next_under m (Do goal cut) = Do (substituted m goal) cut
 next_under m (ConditionEnd h) = ConditionEnd h
 next_under m (NotEnd h) = NotEnd h
+next_under m (CatchEnd h) = CatchEnd h
 
 abbrev pub bound_further : (ℕ → Tree) → State → State
 bound_further m s = record s { goals = map (next_under m) s.goals; bindings = λ v. substituted m (s.bindings v) }
@@ -254,6 +259,36 @@ abbrev pub denying : Tree → State → Option Tree → Outcome
 denying goal s None = raises (not_callable goal) (record { name = codes "\\+"; arity = 1 }) s
 denying goal s (Some body) = onwards (Do body (suc (height s)) ∷ NotEnd (height s) ∷ []) (pushed NotMark s)
 
+-- ---- balls and the end of a run
+
+-- the goal of a `catch` as a body, above a mark
+abbrev pub catching : Tree → Tree → Tree → State → Option Tree → Outcome
+catching goal catcher recovery s None = raises (not_callable goal) (record { name = codes "catch"; arity = 3 }) s
+catching goal catcher recovery s (Some body) = onwards (Do body (suc (height s)) ∷ CatchEnd (suc (height s)) ∷ []) (pushed (CatchMark catcher recovery) s)
+
+abbrev pub raise_it : Tree → State → Outcome
+raise_it ball s = Goes (record s { mode = Raising ball })
+
+-- a copy of the ball is raised, its variables numbered from 0
+abbrev pub throwing : Tree → State → Outcome
+throwing (variable n) s = raises Instantiation (record { name = codes "throw"; arity = 1 }) s
+throwing (integer z) s = raise_it (numbered (integer z)) s
+throwing (atom a) s = raise_it (numbered (atom a)) s
+throwing (compound f ts) s = raise_it (numbered (compound f ts)) s
+
+abbrev pub halt_with : Indicator
+halt_with = record { name = codes "halt"; arity = 1 }
+
+abbrev pub not_integer : Tree → Fault
+not_integer t = OfType (codes "integer") (numbered t)
+
+-- the run is ended with this number
+abbrev pub halting : Setting → Tree → State → Outcome
+halting x (variable n) s = raises Instantiation halt_with s
+halting x (integer z) s = over x s (Halted z)
+halting x (atom a) s = raises (not_integer (atom a)) halt_with s
+halting x (compound f ts) s = raises (not_integer (compound f ts)) halt_with s
+
 -- ---- goals
 
 abbrev pub repeating : State → Outcome
@@ -273,6 +308,10 @@ performing x goal cut (If c t) s = onwards (Do c (height s) ∷ ConditionEnd (he
 performing x goal cut (Not g) s = denying g s (body_of g)
 performing x goal cut (Call g added) s = calling_added g added s
 performing x goal cut (Once g) s = onwards (Do (two (codes "->") (call_term g) (atom (codes "true"))) cut ∷ []) s
+performing x goal cut (Catch g c r) s = catching g c r s (body_of g)
+performing x goal cut (Throw b) s = throwing b s
+performing x goal cut Halt s = over x s (Halted (pos 0))
+performing x goal cut (HaltWith n) s = halting x n s
 performing x goal cut (Equal a b) s = equating a b [] s
 performing x goal cut (User i) s = calling x s goal i
 
@@ -289,6 +328,10 @@ doing x goal cut s (If c t) = stepping x s (performing x goal cut (If c t))
 doing x goal cut s (Not g) = stepping x s (performing x goal cut (Not g))
 doing x goal cut s (Call g added) = stepping x s (performing x goal cut (Call g added))
 doing x goal cut s (Once g) = stepping x s (performing x goal cut (Once g))
+doing x goal cut s (Catch g c r) = stepping x s (performing x goal cut (Catch g c r))
+doing x goal cut s (Throw b) = stepping x s (performing x goal cut (Throw b))
+doing x goal cut s Halt = stepping x s (performing x goal cut Halt)
+doing x goal cut s (HaltWith n) = stepping x s (performing x goal cut (HaltWith n))
 doing x goal cut s (Equal a b) = stepping x s (performing x goal cut (Equal a b))
 doing x goal cut s (User i) = stepping x s (performing x goal cut (User i))
 
@@ -301,10 +344,15 @@ is_alternative (Clauses goal rest) = true
 is_alternative (Right goal cut) = true
 is_alternative Again = true
 is_alternative NotMark = false
+is_alternative (CatchMark c r) = false
 
 -- the value of the shown term, with its variables numbered from 0 by first occurrence; open where an alternative is left
 abbrev pub answer : Setting → State → Event
 answer x s = Answer (numbered (substituted s.bindings x.shown)) (list_any (λ c. is_alternative c.what) s.stack)
+
+-- a `catch` is left: its mark goes where it is the newest, and else stays below the alternatives that are left
+abbrev pub leaving_catch : ℕ → State → State
+leaving_catch h s = if height s == h then cut_back (h - 1) s else s
 
 -- no goal is left: an answer, and on as after a failure; else the first thing to be done
 abbrev pub going : Setting → State → List Next → Outcome
@@ -314,6 +362,7 @@ going x s (Do goal cut ∷ rest) = goal_move x goal cut (record s { goals = rest
 going x s (ConditionEnd h ∷ rest) = Goes (cut_back h (record s { goals = rest }))
 -- the goal of a `\+` has an answer: its mark is taken away too
 going x s (NotEnd h ∷ rest) = fails (cut_back h (record s { goals = rest }))
+going x s (CatchEnd h ∷ rest) = Goes (leaving_catch h (record s { goals = rest }))
 
 -- an alternative is taken, by a step; a mark is passed without one
 abbrev pub taken : Setting → State → Alternative → Outcome
@@ -321,6 +370,7 @@ taken x s (Clauses goal rest) = stepping x s (trying goal rest)
 taken x s (Right goal cut) = stepping x s (onwards (Do goal cut ∷ []))
 taken x s Again = stepping x s repeating
 taken x s NotMark = Goes s
+taken x s (CatchMark c r) = fails s
 
 -- back in the state of a choice's moment, but for what was counted
 abbrev pub back_to : State → Choice → List Choice → State
@@ -331,9 +381,43 @@ abbrev pub failing : Setting → State → List Choice → Outcome
 failing x s [] = over x s Exhausted
 failing x s (c ∷ below) = taken x (back_to s c below) c.what
 
--- a ball ends the run, since nothing catches it
+-- The innermost `catch` that is active, which is one whose end is still to come: the height of the stack with its mark on it.
+abbrev pub active_catch : List Next → Option ℕ
+active_catch [] = None
+active_catch (Do goal cut ∷ rest) = active_catch rest
+active_catch (ConditionEnd h ∷ rest) = active_catch rest
+active_catch (NotEnd h ∷ rest) = active_catch rest
+active_catch (CatchEnd h ∷ rest) = Some h
+
+-- the recovery is called where the ball and the catcher are made one, and else the ball goes further
+abbrev pub recovering : Tree → Tree → State → Option (ℕ → Tree) → Outcome
+recovering ball recovery s None = raise_it ball s
+recovering ball recovery s (Some m) = Goes (bound_further m (record s { goals = Do (call_term recovery) (height s) ∷ s.goals }))
+
+-- a ball has variables of its own, which are new ones
+abbrev pub catching_ball : Tree → Tree → Tree → State → Outcome
+catching_ball ball catcher recovery s = recovering ball recovery (record s { fresh = s.fresh + beyond ball }) (unifier (renamed s.fresh ball) catcher)
+
+-- The newest choice is the mark of the active `catch`: its moment is gone back to, so all bindings made since are undone. Nothing else
+-- ever stands there (`CatchesHaveMarks`, below); it would be taken away.
+abbrev pub reaching : Tree → State → List Choice → Choice → Alternative → Outcome
+reaching ball s below c (CatchMark catcher recovery) = catching_ball ball catcher recovery (back_to s c below)
+reaching ball s below c (Clauses goal rest) = Goes (record s { stack = below })
+reaching ball s below c (Right goal cut) = Goes (record s { stack = below })
+reaching ball s below c Again = Goes (record s { stack = below })
+reaching ball s below c NotMark = Goes (record s { stack = below })
+
+abbrev pub reached : Setting → Tree → State → List Choice → Outcome
+reached x ball s [] = over x s (Ball ball)
+reached x ball s (c ∷ below) = reaching ball s below c c.what
+
+-- What is above the mark of the active `catch` is taken away, and then its mark is reached. A ball that nothing catches ends the run.
+abbrev pub caught : Setting → Tree → State → Option ℕ → Outcome
+caught x ball s None = over x s (Ball ball)
+caught x ball s (Some h) = if nat_lt h (height s) then Goes (cut_back h s) else reached x ball s s.stack
+
 abbrev pub raising : Setting → State → Tree → Outcome
-raising x s ball = over x s (Ball ball)
+raising x s ball = caught x ball s (active_catch s.goals)
 
 -- one move
 abbrev pub move : Setting → State → Outcome
@@ -394,6 +478,7 @@ abbrev pub CanBeDone : Next → Type 0
 CanBeDone (Do goal cut) = IsTrue (is_body goal)
 CanBeDone (ConditionEnd h) = Unit {0}
 CanBeDone (NotEnd h) = Unit {0}
+CanBeDone (CatchEnd h) = Unit {0}
 
 abbrev pub HasBody : Clause → Type 0
 HasBody c = IsTrue (is_body c.body)
@@ -403,6 +488,7 @@ CanBeTaken (Clauses goal rest) = All HasBody rest
 CanBeTaken (Right goal cut) = IsTrue (is_body goal)
 CanBeTaken Again = Unit {0}
 CanBeTaken NotMark = Unit {0}
+CanBeTaken (CatchMark c r) = Unit {0}
 
 pub record CanGoBack (c : Choice) : Type 0 where
   pub what : CanBeTaken c.what
@@ -431,6 +517,28 @@ LegalHasBodies = (words updates : ℕ) (J : Journal) → Legal words updates J �
 abbrev pub EachGoalRuns : Type 0
 EachGoalRuns = (x : Setting) (goal : Tree) → HasBodies x.journal → made_all x ≡ true → x.start ≤ length x.journal
     → (n : ℕ) × ((r : Report) × Transcript x goal (replicate n (length x.journal)) r)
+
+-- ---- catches have their marks
+
+-- a run comes from one state to another
+pub data Reaches (x : Setting) (s : State) : State → Type 0 where
+  here : Reaches x s s
+  further : {t u : State} → Reaches x s t → move x t ≡ Goes u → Reaches x s u
+
+abbrev pub is_mark : Alternative → Bool
+is_mark (CatchMark catcher recovery) = true
+is_mark (Clauses goal rest) = false
+is_mark (Right goal cut) = false
+is_mark Again = false
+is_mark NotMark = false
+
+-- the mark of a `catch` stands there, and the stack has this height with the mark on it
+abbrev pub HasMark : ℕ → List Choice → Type 0
+HasMark h stack = (c : Choice) × ((below : List Choice) × ((cut_to h stack ≡ c ∷ below) × (suc (length below) ≡ h) × (is_mark c.what ≡ true)))
+
+-- In each state that a run comes to, the mark of the active `catch` stands where its end says: nothing else is ever reached by a ball.
+abbrev pub CatchesHaveMarks : Type 0
+CatchesHaveMarks = (x : Setting) (goal : Tree) (fronts : List ℕ) (s : State) (h : ℕ) → Reaches x (beginning x goal fronts) s → active_catch s.goals ≡ Some h → HasMark h s.stack
 
 -- ---- as an engine keeps it
 

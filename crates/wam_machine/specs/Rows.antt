@@ -13,7 +13,7 @@ use Rattle.wam_machine.specs.Machine.{Setting, Look, Transcript}
 use Rattle.wam_machine.specs.declared.run.Event.{Event}
 use Rattle.wam_machine.specs.declared.run.Event.TheVariants.{Answer}
 use Rattle.wam_machine.specs.declared.run.RunEnd.{RunEnd}
-use Rattle.wam_machine.specs.declared.run.RunEnd.TheVariants.{Exhausted, Ball, Spent}
+use Rattle.wam_machine.specs.declared.run.RunEnd.TheVariants.{Exhausted, Ball, Spent, Halted}
 
 -- ---- terms and clauses
 
@@ -116,6 +116,28 @@ then t u = two (codes "->") t u
 
 abbrev pub equal : Tree → Tree → Tree
 equal t u = two (codes "=") t u
+
+abbrev pub catches : Tree → Tree → Tree → Tree
+catches g k r = compound (codes "catch") (more g (more k (more r none)))
+
+abbrev pub throws : Tree → Tree
+throws t = one (codes "throw") t
+
+abbrev pub halts : Tree
+halts = atom (codes "halt")
+
+abbrev pub halts_with : Tree → Tree
+halts_with t = one (codes "halt") t
+
+-- the name and arity of `catch`, of `throw`, and of `halt` with a number
+abbrev pub catch_three : Indicator
+catch_three = record { name = codes "catch"; arity = 3 }
+
+abbrev pub throw_one : Indicator
+throw_one = record { name = codes "throw"; arity = 1 }
+
+abbrev pub halt_one : Indicator
+halt_one = record { name = codes "halt"; arity = 1 }
 
 abbrev pub denied : Tree → Tree
 denied t = one (codes "\\+") t
@@ -326,3 +348,57 @@ pub record HasRows : Type 0 where
   pub repeat_spent : Gives [] 10 (both repeats failure) [] [] [] 10 (Spent 10)
   -- repeat: an answer after each step, and after the last
   pub repeat_answers : Gives [] 3 repeats [] [] (opened [] ∷ opened [] ∷ opened [] ∷ []) 3 (Spent 3)
+  -- ---- balls
+  -- catch(throw(b), X, true)
+  pub catch_b : Alone (catches (throws b) x truth) (closed (b ∷ []) ∷ []) 4 Exhausted
+  -- the same, one step short
+  pub catch_spent : Gives [] 3 (catches (throws b) x truth) (x ∷ []) [] [] 3 (Spent 3)
+  -- a `catch` that was left catches nothing: catch(true, X, true), throw(b)
+  pub catch_left : Alone (both (catches truth x truth) (throws b)) [] 3 (Ball b)
+  -- also one that was left with alternatives: catch((X = 1 ; X = 2), a, true), X = 2, throw(a)
+  pub catch_exited : Alone (both (catches one_or_two a truth) (both (equal x (number 2)) (throws a))) [] 8 (Ball a)
+  -- bindings made since are undone: catch((X = 1, throw(a)), Y, true)
+  pub catch_undone : Alone (catches (both (equal x (number 1)) (throws a)) (variable 5) truth) (is_free ∷ []) 5 Exhausted
+  -- the innermost whose catcher unifies: catch(catch(throw(a), b, true), a, X = 1)
+  pub catch_outer : Alone (catches (catches (throws a) b truth) a (equal x (number 1))) (is_one ∷ []) 5 Exhausted
+  -- a ball that is raised in a recovery: catch(throw(a), X, throw(b)), and in an outer `catch`
+  pub catch_recovery : Alone (catches (throws a) x (throws b)) [] 4 (Ball b)
+  pub catch_rethrown : Alone (catches (catches (throws a) (variable 1) (throws b)) x truth) (closed (b ∷ []) ∷ []) 7 Exhausted
+  -- an error is a ball: catch(call(X,a), f(X), true), whose catcher doesn't unify
+  pub catch_error : Gives [] 100 (catches (call (x ∷ a ∷ [])) (one (codes "f") x) truth) [] [] [] 2 (Ball (fault_tree Instantiation (called 2)))
+  -- a ball is a copy: catch(throw(f(X)), f(Y), Y = a)
+  pub catch_copy : Gives [] 100 (catches (throws (one (codes "f") x)) (one (codes "f") (variable 1)) (equal (variable 1) a)) (x ∷ variable 1 ∷ []) [] (closed (variable 0 ∷ a ∷ []) ∷ []) 4 Exhausted
+  -- a cut in it is local: (X = 1 ; X = 2), catch(!, b, true)
+  pub cut_in_catch : Alone (both one_or_two (catches cut b truth)) (one_and_more ∷ is_two ∷ []) 8 Exhausted
+  -- its own error is raised outside of it: catch(1, X, true); a variable's body is call(X): catch(X, Y, true)
+  pub catch_integer : Alone (catches (number 1) x truth) [] 1 (uncallable (number 1) catch_three)
+  pub catch_unbound : Alone (catches x (variable 1) truth) (is_free ∷ []) 4 Exhausted
+  -- inside a `\+`: \+ catch(throw(a), Y, fail)
+  pub catch_in_denied : Alone (denied (catches (throws a) (variable 1) failure)) (is_free ∷ []) 5 Exhausted
+  -- throw(X)
+  pub throw_unbound : Alone (throws x) [] 1 (Ball (fault_tree Instantiation throw_one))
+  -- a cut in the condition of a `->` without else is local, too: (X = 1 ; X = 2), (! -> true)
+  pub cut_in_lone_condition : Alone (both one_or_two (then cut truth)) (one_and_more ∷ is_two ∷ []) 10 Exhausted
+  -- 254 arguments and one more
+  pub most_arguments : Gives [] 100 (call (compound (codes "f") (trees (copies 254 a)) ∷ a ∷ [])) [] (0 ∷ []) [] 2
+      (Ball (fault_tree (Existence (record { name = codes "f"; arity = 255 })) (record { name = codes "f"; arity = 255 })))
+  -- a failure passes the mark, without a step: catch(fail, a, true), catch((X = 1 ; fail), a, true)
+  pub catch_failing : Alone (catches failure a truth) [] 2 Exhausted
+  pub catch_failing_later : Alone (catches (or (equal x (number 1)) failure) a truth) (one_and_more ∷ []) 5 Exhausted
+  -- a ball from within a `\+`, a condition and `once`
+  pub catch_out_of_denied : Alone (catches (denied (throws a)) a truth) (is_free ∷ []) 5 Exhausted
+  pub catch_out_of_condition : Alone (catches (or (then (throws a) truth) truth) a truth) (is_free ∷ []) 5 Exhausted
+  pub catch_out_of_once : Alone (catches (once (throws a)) a truth) (is_free ∷ []) 7 Exhausted
+  -- what comes after a recovery has the alternatives from before: (X = 1 ; X = 2), catch(throw(a), a, true)
+  pub catch_goes_on : Alone (both one_or_two (catches (throws a) a truth)) (one_and_more ∷ is_two ∷ []) 12 Exhausted
+  -- catch(throw(1), X, true)
+  pub catch_number : Alone (catches (throws (number 1)) x truth) (is_one ∷ []) 4 Exhausted
+  -- ---- the end of a run
+  -- (X = 1 ; X = 2), halt
+  pub halted : Alone (both one_or_two halts) [] 3 (Halted (pos 0))
+  -- halt(3), also inside a `catch`
+  pub halted_with : Alone (halts_with (number 3)) [] 1 (Halted (pos 3))
+  pub halted_in_catch : Alone (catches (halts_with (number 3)) x truth) [] 2 (Halted (pos 3))
+  -- halt(X) and halt(a)
+  pub halt_unbound : Alone (halts_with x) [] 1 (Ball (fault_tree Instantiation halt_one))
+  pub halt_atom : Alone (halts_with a) [] 1 (Ball (fault_tree (OfType (codes "integer") a) halt_one))

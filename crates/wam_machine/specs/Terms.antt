@@ -10,7 +10,7 @@ use Rattle.term_store.specs.Terms.{raw, meaning, term_of, HasTerm, AreNamed}
 use Rattle.term_store.specs.Later.{back, CanGoBack, AreDistinct, AreLonger}
 use Rattle.term_store.specs.declared.cell.Cell.{Cell}
 use Rattle.term_unifier.specs.Unifier.{unifier}
-use Rattle.wam_machine.specs.Machine.{Next, Do, ConditionEnd, NotEnd, next_under, body_from}
+use Rattle.wam_machine.specs.Machine.{Next, Do, ConditionEnd, NotEnd, CatchEnd, next_under, body_from}
 use Rattle.wam_machine.specs.declared.terms.Alternative.{Alternative}
 use Rattle.wam_machine.specs.declared.terms.Alternative.TheVariants as is
 use Rattle.wam_machine.specs.declared.terms.Call.{Call}
@@ -38,6 +38,8 @@ pub data Turn (C : Type 0) : Type 0 where
   OfRepeat : Turn C
   -- behind a `\+`
   OfNot : Turn C
+  -- with a ball that the catcher takes; a failure goes further
+  OfCatch : (catcher recovery : Tree) → Turn C
 
 -- a moment that may be gone back to: how, the goals that come after that, and what each variable stood for
 pub record Saved (C : Type 0) : Type 0 where
@@ -64,6 +66,7 @@ abbrev pub next_of : (Cell → Tree) → Waiting → Next
 next_of tree (waits.Do c h) = Do (tree c) h
 next_of tree (waits.ConditionEnd h) = ConditionEnd h
 next_of tree (waits.NotEnd h) = NotEnd h
+next_of tree (waits.CatchEnd h) = CatchEnd h
 
 abbrev pub frame_at : List Frame → ℕ → Frame
 frame_at frames i = slice_index_or frames i (record { what = waits.NotEnd 0; next = 0 })
@@ -85,6 +88,7 @@ turn_of tree (is.Clauses c) = OfCall (left_of tree c)
 turn_of tree (is.Right c h) = OfRight (tree c) h
 turn_of tree is.Again = OfRepeat
 turn_of tree is.NotMark = OfNot
+turn_of tree (is.CatchMark c r) = OfCatch (tree c) (tree r)
 
 -- what may be gone back to, as it was at its moment
 abbrev pub saved_of : {C : Type 0} → List (List ℕ) → Shape → List Frame → Choice C → Saved C
@@ -126,6 +130,7 @@ abbrev pub IsNext : {C : Type 0} → Terms C → Waiting → Type 0
 IsNext t (waits.Do c h) = IsGoal t c
 IsNext t (waits.ConditionEnd h) = Unit {0}
 IsNext t (waits.NotEnd h) = Unit {0}
+IsNext t (waits.CatchEnd h) = Unit {0}
 
 -- a call that was just looked up, or taken up again: its moment is now
 abbrev pub call_now : {C : Type 0} → Terms C → Call C → Left C
@@ -144,6 +149,7 @@ IsTurn t (is.Clauses c) = IsBuilt t c.goal
 IsTurn t (is.Right c h) = IsGoal t c
 IsTurn t is.Again = Unit {0}
 IsTurn t is.NotMark = Unit {0}
+IsTurn t (is.CatchMark c r) = IsBuilt t c × IsBuilt t r
 
 -- one more moment may be saved without taking memory
 unfoldable pub HasPlace : {C : Type 0} → Terms C → Type 0
@@ -151,12 +157,13 @@ HasPlace t = vec_len t.choices < vec_capacity t.choices
 
 -- ---- the stack
 
--- an alternative, and no mark of a `\+`
+-- an alternative, and no mark
 abbrev pub is_open : {C : Type 0} → Turn C → Bool
 is_open (OfCall c) = true
 is_open (OfRight g h) = true
 is_open OfRepeat = true
 is_open OfNot = false
+is_open (OfCatch c r) = false
 
 -- an alternative is left
 abbrev pub is_any_open : {C : Type 0} → List (Saved C) → Bool
@@ -168,6 +175,7 @@ call_in (OfCall c) = Some c
 call_in (OfRight g h) = None
 call_in OfRepeat = None
 call_in OfNot = None
+call_in (OfCatch c r) = None
 
 -- the calls with clauses left
 abbrev pub calls_in : {C : Type 0} → List (Saved C) → List (Left C)
@@ -183,6 +191,7 @@ abbrev pub IsWaiting : List (List ℕ) → Shape → Waiting → Type 0
 IsWaiting texts shape (waits.Do c h) = CanBeGoal texts shape c
 IsWaiting texts shape (waits.ConditionEnd h) = Unit {0}
 IsWaiting texts shape (waits.NotEnd h) = Unit {0}
+IsWaiting texts shape (waits.CatchEnd h) = Unit {0}
 
 pub record IsFrame (texts : List (List ℕ)) (shape : Shape) (i : ℕ) (f : Frame) : Type 0 where
   pub lower : f.next ≤ i
@@ -197,6 +206,7 @@ IsKeptTurn texts shape (is.Clauses c) = HasTerm (length texts) shape c.goal
 IsKeptTurn texts shape (is.Right c h) = CanBeGoal texts shape c
 IsKeptTurn texts shape is.Again = Unit {0}
 IsKeptTurn texts shape is.NotMark = Unit {0}
+IsKeptTurn texts shape (is.CatchMark c r) = HasTerm (length texts) shape c × HasTerm (length texts) shape r
 
 -- it can be gone back to, with its goal and the goals after it
 pub record IsChoice {C : Type 0} (texts : List (List ℕ)) (shape : Shape) (frames : List Frame) (c : Choice C) : Type 0 where
@@ -231,6 +241,15 @@ pub record AreTerms {C : Type 0} (t : Terms C) : Type 0 where
 abbrev pub KeepsCells : {C : Type 0} → Terms C → Terms C → Type 0
 KeepsCells {C} old new = (c : Cell) → IsBuilt old c → IsBuilt new c × (built new c ≡ built old c)
 
+-- cells stand for what they stood for, as far as it was bound since
+abbrev pub KeepsUnder : {C : Type 0} → (ℕ → Tree) → Terms C → Terms C → Type 0
+KeepsUnder {C} m old new = (c : Cell) → IsBuilt old c → IsBuilt new c × (built new c ≡ substituted m (built old c))
+
+-- the same by the unifier of two terms, if there is one
+abbrev pub KeepsBound : {C : Type 0} → Option (ℕ → Tree) → Terms C → Terms C → Type 0
+KeepsBound None old new = KeepsCells old new
+KeepsBound (Some m) old new = KeepsUnder m old new
+
 -- terms and names were added, and nothing else was done
 pub record IsGrown {C : Type 0} (old new : Terms C) : Type 0 where
   pub terms : AreTerms new
@@ -253,6 +272,18 @@ AreEquated a b goals old new done = IsSolved goals old new done (unifier a b)
 abbrev pub IsEntered : {C : Type 0} → Tree → Clause → ℕ → Said C → Said C → Bool → Type 0
 IsEntered goal c cut old new done =
     AreEquated (renamed old.fresh c.head) goal (body_from old.fresh cut c) (record old { fresh = old.fresh + c.vars }) new done
+
+-- it is the mark of a `catch`
+abbrev pub is_catch : {C : Type 0} → Turn C → Bool
+is_catch (OfCall c) = false
+is_catch (OfRight g h) = false
+is_catch OfRepeat = false
+is_catch OfNot = false
+is_catch (OfCatch c r) = true
+
+-- whether the newest moment is the mark of a `catch`
+abbrev pub HasCatch : {C : Type 0} → List (Saved C) → Bool → Type 0
+HasCatch {C} stack b = (below : List (Saved C)) × ((s : Saved C) × ((stack ≡ below ++ s ∷ []) × (is_catch s.turn ≡ b)))
 
 -- how the newest moment would be gone back to
 abbrev pub HasNewest : {C : Type 0} → List (Saved C) → Bool → Type 0

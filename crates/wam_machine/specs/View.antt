@@ -11,10 +11,10 @@ use Rattle.journal_base.specs.Looks.{most_raised, scans_of, kept_of, wants_of}
 use Rattle.journal_base.specs.View.{View, IsSound, Out, none_out, opened}
 use Rattle.journal_base.specs.declared.cause.How.{How}
 use Rattle.journal_base.specs.declared.tally.Tally.{Tally}
-use Rattle.wam_machine.specs.Terms.{Left, Turn, OfCall, OfRight, OfRepeat, OfNot, Saved, Said, AreTerms, said, calls_in}
+use Rattle.wam_machine.specs.Terms.{Left, Turn, OfCall, OfRight, OfRepeat, OfNot, OfCatch, Saved, Said, AreTerms, said, calls_in}
 use Rattle.wam_machine.specs.Cursors.{Begins, goal_of, part, clauses_left, visits_left, AreNamed}
 use Rattle.wam_machine.specs.Machine as spec
-use Rattle.wam_machine.specs.Machine.{State, Setting, Outcome, Goes, Ends, Look, Next, Do, Clauses, Right, Again, NotMark, Going, Failing, Raising, move, goal_move, trying, onwards, repeating, made_all, Report, Runs, beginning, shown_list, newest}
+use Rattle.wam_machine.specs.Machine.{State, Setting, Outcome, Goes, Ends, Look, Next, Do, Clauses, Right, Again, NotMark, CatchMark, Going, Failing, Raising, move, goal_move, trying, onwards, repeating, fails, made_all, Report, Runs, beginning, shown_list, newest}
 use Rattle.wam_machine.specs.Control.{control_of, first_body}
 use Rattle.wam_machine.specs.Runs.{IsFairLook, allowances}
 use Rattle.wam_machine.specs.declared.run.Event.{Event}
@@ -41,6 +41,7 @@ alternative_of rest at j (OfCall c) = Clauses c.goal (clauses_left rest at j c)
 alternative_of rest at j (OfRight goal cut) = Right goal cut
 alternative_of rest at j OfRepeat = Again
 alternative_of rest at j OfNot = NotMark
+alternative_of rest at j (OfCatch c r) = CatchMark c r
 
 -- what may be gone back to
 abbrev pub choice_of : {C : Type 0} → (C → Asked → Journal → List ℕ) → (C → ℕ) → Journal → Saved C → spec.Choice
@@ -204,6 +205,7 @@ resuming (Clauses goal rest) s = trying goal rest s
 resuming (Right goal cut) s = onwards (Do goal cut ∷ []) s
 resuming Again s = repeating s
 resuming NotMark s = Goes s
+resuming (CatchMark c r) s = fails s
 
 -- the calls with clauses left of a turn: one at most
 abbrev pub turn_calls : {C : Type 0} → Turn C → List (Left C)
@@ -211,6 +213,7 @@ turn_calls (OfCall c) = c ∷ []
 turn_calls (OfRight goal cut) = []
 turn_calls OfRepeat = []
 turn_calls OfNot = []
+turn_calls (OfCatch c r) = []
 
 -- the machine goes on with a turn, over a journal
 pub record Resumes {C : Type 0} (rest : C → Asked → Journal → List ℕ) (may : C → Asked → Journal → ℕ) (at : C → ℕ) (ahead : C → ℕ) (j : Journal) (turn : Turn C) (old new : Machine C) : Type 0 where

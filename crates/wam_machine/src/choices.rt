@@ -16,6 +16,8 @@ pub(crate) enum Newest {
     Open,
     /// The mark of a `\+`.
     Mark,
+    /// The mark of a `catch`.
+    Catch,
 }
 
 /// What the newest moment is.
@@ -26,6 +28,7 @@ pub(crate) fn see_newest<C>(terms: &Terms<C>) -> Newest
         None => Newest::Nothing,
         Some(choice) => match &choice.what {
             Alternative::NotMark => Newest::Mark,
+            Alternative::CatchMark(_, _) => Newest::Catch,
             _ => Newest::Open,
         },
     }
@@ -38,7 +41,8 @@ pub(crate) fn height<C>(terms: &Terms<C>) -> usize
     terms.choices.len()
 }
 
-/// Whether an alternative is left. Where an answer is given no mark of a `\+` is left, so the newest moment decides.
+/// Whether an alternative is left: marks are none. Where an answer is given the newest moment is no mark, so this looks no
+/// further.
 pub(crate) fn any_open<C>(terms: &Terms<C>) -> bool
     ensures { result ≡ is_any_open (said terms.now).stack }
 {
@@ -129,6 +133,7 @@ pub(crate) fn drop_newest<C>(terms: &mut Terms<C>) -> Option<Call<C>>
         Alternative::Right(_, _) => None,
         Alternative::Again => None,
         Alternative::NotMark => None,
+        Alternative::CatchMark(_, _) => None,
     }
 }
 
@@ -138,6 +143,7 @@ fn is_alternative<C>(what: &Alternative<C>) -> bool
 {
     match what {
         Alternative::NotMark => false,
+        Alternative::CatchMark(_, _) => false,
         _ => true,
     }
 }

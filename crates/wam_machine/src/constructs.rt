@@ -5,17 +5,20 @@ ghost use Rattle.prolog_terms.specs.Tree.{Tree, atom};
 ghost use Rattle.prolog_terms.specs.Faults.{two};
 ghost use Rattle.prolog_terms.specs.Clauses.{body_of, call_term, is_body};
 ghost use Rattle.term_store.specs.Terms.{trees_of};
-ghost use Rattle.wam_machine.specs.Machine.{Setting, State, Do, ConditionEnd, NotEnd, Right, NotMark, performing, onwards, pushed, height as height_of, fails, repeating, equating, running, denying, calling_added};
+ghost use Rattle.wam_machine.specs.Machine.{Setting, State, Do, ConditionEnd, NotEnd, Right, NotMark, performing, onwards, pushed, height as height_of, fails, repeating, equating, running, denying, catching, throwing, calling_added, CatchMark, CatchEnd};
 ghost use Rattle.wam_machine.specs.Terms.{AreTerms, IsGoal, IsBuilt, said, built};
 ghost use Rattle.wam_machine.specs.Goals.{AreAmong, AreGoals, IsConstruct, control_in};
 ghost use Rattle.wam_machine.specs.View.{Acts, calls, settled_mode};
 
+use crate::balls::{Thrown, as_ball};
 use crate::bodies::body;
 use crate::build::{Added, add, once_goal};
 use crate::choices::{height, make_place, save};
 use crate::control::Control;
 use crate::enter::equate as equate_terms;
-use crate::errors::{call_indicator, not_indicator, too_many, unbound, uncallable};
+use crate::errors::{
+    call_indicator, catch_indicator, not_indicator, too_many, unbound, unbound_ball, uncallable,
+};
 use crate::goals::push_next;
 use crate::state::{Machine, Mode};
 use crate::terms::{Alternative, Next};
@@ -23,7 +26,7 @@ use prolog_terms::{Indicator, Want};
 use std::alloc::Global;
 use term_store::Cell;
 
-/// Does what a goal is, where it is no conjunction, no cut and no call of a procedure.
+/// Does what a goal is, where it is no conjunction, no cut, no end of the run and no call of a procedure.
 pub(crate) fn construct<C>(
     machine: &mut Machine<C>,
     alloc: Global,
@@ -50,10 +53,14 @@ pub(crate) fn construct<C>(
         Control::Not(goal) => deny(machine, alloc, goal),
         Control::Call(goal, added) => call_added(machine, alloc, goal, added.as_slice()),
         Control::Once(goal) => once(machine, goal, cut),
+        Control::Catch(goal, catcher, recovery) => catch(machine, alloc, goal, catcher, recovery),
+        Control::Throw(ball) => throw(machine, alloc, ball),
+        Control::Halt => unreachable!(),
+        Control::HaltWith(_) => unreachable!(),
         Control::Equal(left, right) => equate(machine, left, right),
-        Control::Cut => Ok(()),
-        Control::Both(_, _) => Ok(()),
-        Control::User(_) => Ok(()),
+        Control::Cut => unreachable!(),
+        Control::Both(_, _) => unreachable!(),
+        Control::User(_) => unreachable!(),
     }
 }
 
@@ -155,6 +162,75 @@ fn deny_body<C>(machine: &mut Machine<C>, made: Cell) -> Result<(), Want>
     let within = height(&machine.terms);
     push_next(&mut machine.terms, Next::NotEnd(before))?;
     push_next(&mut machine.terms, Next::Do(made, within))
+}
+
+/// The goal of a `catch` as a body, above a mark.
+fn catch<C>(
+    machine: &mut Machine<C>,
+    alloc: Global,
+    goal: Cell,
+    catcher: Cell,
+    recovery: Cell,
+) -> Result<(), Want>
+    requires terms { AreTerms machine.old.terms }
+    requires goal { IsBuilt machine.old.terms goal }
+    requires catcher { IsBuilt machine.old.terms catcher }
+    requires recovery { IsBuilt machine.old.terms recovery }
+    ensures acts { OnOk result (Acts (λ s. catching (built machine.old.terms goal) (built machine.old.terms catcher) (built machine.old.terms recovery) s (body_of (built machine.old.terms goal))) machine.old machine.new) }
+    ensures err { OnErr result (calls machine.new ≡ calls machine.old) }
+{
+    match body(alloc, &mut machine.terms, goal)? {
+        Some(made) => catch_body(machine, made, catcher, recovery),
+        None => {
+            let at = catch_indicator(alloc)?;
+            machine.mode = Mode::Raising(uncallable(alloc, &machine.terms, goal, &at)?);
+            Ok(())
+        }
+    }
+}
+
+/// A body whose balls a catcher may take, above a mark.
+fn catch_body<C>(
+    machine: &mut Machine<C>,
+    made: Cell,
+    catcher: Cell,
+    recovery: Cell,
+) -> Result<(), Want>
+    requires terms { AreTerms machine.old.terms }
+    requires made { IsGoal machine.old.terms made }
+    requires catcher { IsBuilt machine.old.terms catcher }
+    requires recovery { IsBuilt machine.old.terms recovery }
+    ensures acts { OnOk result (Acts (λ s. onwards (Do (built machine.old.terms made) (suc (height_of s)) ∷ CatchEnd (suc (height_of s)) ∷ [])
+        (pushed (CatchMark (built machine.old.terms catcher) (built machine.old.terms recovery)) s)) machine.old machine.new) }
+    ensures err { OnErr result (calls machine.new ≡ calls machine.old) }
+{
+    make_place(&mut machine.terms)?;
+    save(
+        &mut machine.terms,
+        Alternative::CatchMark(catcher, recovery),
+    );
+    let within = height(&machine.terms);
+    push_next(&mut machine.terms, Next::CatchEnd(within))?;
+    push_next(&mut machine.terms, Next::Do(made, within))
+}
+
+/// Raises a copy of a ball.
+fn throw<C>(machine: &mut Machine<C>, alloc: Global, ball: Cell) -> Result<(), Want>
+    requires terms { AreTerms machine.old.terms }
+    requires ball { IsBuilt machine.old.terms ball }
+    ensures acts { OnOk result (Acts (throwing (built machine.old.terms ball)) machine.old machine.new) }
+    ensures err { OnErr result (calls machine.new ≡ calls machine.old) }
+{
+    match as_ball(&machine.terms, ball)? {
+        Thrown::Unbound => {
+            machine.mode = Mode::Raising(unbound_ball(alloc)?);
+            Ok(())
+        }
+        Thrown::Ball(ball) => {
+            machine.mode = Mode::Raising(ball);
+            Ok(())
+        }
+    }
 }
 
 /// A goal with arguments added, as a body with a cut of its own.

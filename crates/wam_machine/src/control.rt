@@ -33,6 +33,14 @@ pub(crate) enum Control {
     /// A goal, with up to seven arguments added.
     Call(Cell, Vec<Cell>),
     Once(Cell),
+    /// A goal, a catcher and a recovery.
+    Catch(Cell, Cell, Cell),
+    /// A ball is raised.
+    Throw(Cell),
+    /// The run is ended.
+    Halt,
+    /// The run is ended with a number.
+    HaltWith(Cell),
     /// Two terms are to be made one.
     Equal(Cell, Cell),
     /// Any other goal, by its name and arity.
@@ -72,6 +80,9 @@ fn atom_control(alloc: Global, name: &[u8]) -> Result<Control, Want>
     if name == b"repeat".as_slice() {
         return Ok(Control::Repeat);
     }
+    if name == b"halt".as_slice() {
+        return Ok(Control::Halt);
+    }
     user(alloc, name, 0)
 }
 
@@ -96,6 +107,7 @@ fn row_control<C>(
             }
             two_control(alloc, name, *left, *right)
         }
+        [first, second, third] => three_control(alloc, name, *first, *second, *third),
         _ => more_control(alloc, name, arguments),
     }
 }
@@ -112,6 +124,12 @@ fn one_control(alloc: Global, name: &[u8], only: Cell) -> Result<Control, Want>
     }
     if name == b"\\+".as_slice() {
         return Ok(Control::Not(only));
+    }
+    if name == b"throw".as_slice() {
+        return Ok(Control::Throw(only));
+    }
+    if name == b"halt".as_slice() {
+        return Ok(Control::HaltWith(only));
     }
     user(alloc, name, 1)
 }
@@ -138,9 +156,31 @@ fn two_control(alloc: Global, name: &[u8], left: Cell, right: Cell) -> Result<Co
     user(alloc, name, 2)
 }
 
-/// What a compound of this name and three arguments or more is as a goal.
+/// What a compound of this name and these three arguments is as a goal.
+fn three_control(
+    alloc: Global,
+    name: &[u8],
+    first: Cell,
+    second: Cell,
+    third: Cell,
+) -> Result<Control, Want>
+    ensures { IfOk result (IsFound (first ∷ second ∷ third ∷ []) (λ tree. compound name.now (more (tree first) (more (tree second) (more (tree third) none))))) }
+{
+    if name == b"catch".as_slice() {
+        return Ok(Control::Catch(first, second, third));
+    }
+    if name == b"call".as_slice() {
+        let mut added = Vec::new(alloc);
+        added.push(second)?;
+        added.push(third)?;
+        return Ok(Control::Call(first, added));
+    }
+    user(alloc, name, 3)
+}
+
+/// What a compound of this name and four arguments or more is as a goal.
 fn more_control(alloc: Global, name: &[u8], arguments: &[Cell]) -> Result<Control, Want>
-    requires some { 3 ≤ length arguments.now }
+    requires some { 4 ≤ length arguments.now }
     requires few { length arguments.now ≤ 255 }
     ensures { IfOk result (IsFound arguments.now (λ tree. compound name.now (trees_of tree arguments.now))) }
 {

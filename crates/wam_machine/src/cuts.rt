@@ -1,10 +1,10 @@
 // Cuts: moments that may be gone back to are taken away.
-ghost use Rattle.std.specs.Prelude.{◌≡◌, ◌<◌, take};
+ghost use Rattle.std.specs.Prelude.{◌≡◌, ◌==◌, ◌-◌, ◌<◌, if◌then◌else◌, take};
 ghost use Rattle.journal_base.specs.Calls.{Goal};
 ghost use Rattle.journal_base.specs.Journal.{Journal};
 ghost use Rattle.journal_base.specs.View.{IsSound, Looks, opened};
 ghost use Rattle.wam_machine.specs.Cursors.{Begins};
-ghost use Rattle.wam_machine.specs.Machine.{Goes, cut_back as cut_back_to, fails};
+ghost use Rattle.wam_machine.specs.Machine.{Goes, cut_back as cut_back_to, leaving_catch, fails};
 ghost use Rattle.wam_machine.specs.Terms.{AreTerms, said, calls_in};
 ghost use Rattle.wam_machine.specs.View.{AreKept, IsReady, IsLeft, GoesOn, calls};
 
@@ -81,4 +81,33 @@ pub(crate) fn end_not<B: Base>(
 {
     cut_stack(base, machine, host, height);
     machine.mode = Mode::Failing;
+}
+
+/// A `catch` is left: its mark is taken away where it is the newest moment.
+pub(crate) fn leave_catch<B: Base>(
+    base: &mut B,
+    machine: &mut Machine<B::Cursor>,
+    host: &Host,
+    height: usize,
+)
+    requires ready { IsReady (B.view base.old) (B.serves base.old) B.group (B.out base.old) B.rest B.may_visit B.looked_at host.now.budget machine.old }
+    ensures seen { Looks (B.view base.old) (B.view base.new) }
+    ensures becomes { B.becomes base.old base.new }
+    ensures kept { AreKept (B.serves base.new) B.group (B.out base.new) (calls machine.new) }
+    ensures left { IsLeft host.now.budget (B.view base.new).seen machine.old machine.new }
+    ensures goes { (j : Journal) → Begins (B.view base.new) j → GoesOn B.rest B.may_visit B.looked_at B.ahead (B.view base.new).causes (λ s. Goes (leaving_catch height s)) j machine.old machine.new }
+{
+    let kept = height_left(height_now(&machine.terms), height);
+    cut_stack(base, machine, host, kept);
+}
+
+/// How high the stack stays where a `catch` is left whose mark is at a height.
+fn height_left(now: usize, height: usize) -> usize
+    ensures { result ≡ (if now == height then height - 1 else now) }
+{
+    if now == height {
+        height.saturating_sub(1)
+    } else {
+        now
+    }
 }

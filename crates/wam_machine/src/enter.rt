@@ -2,9 +2,10 @@
 ghost use Rattle.std.specs.Prelude.{◌≡◌, ◌+◌, ◌≤◌, ◌++◌, IfOk, OnOk, OnErr, IsTrue, [], map};
 ghost use Rattle.prolog_terms.specs.Clauses.{IsClause, is_body};
 ghost use Rattle.prolog_terms.specs.Substitutions.{renamed, beyond, substituted};
+ghost use Rattle.term_unifier.specs.Unifier.{unifier};
 ghost use Rattle.wam_machine.specs.Control.{is_true_atom, body_goals};
 ghost use Rattle.wam_machine.specs.Machine.{Do};
-ghost use Rattle.wam_machine.specs.Terms.{AreTerms, IsBuilt, said, built, AreEquated, IsEntered};
+ghost use Rattle.wam_machine.specs.Terms.{AreTerms, IsBuilt, KeepsBound, said, built, AreEquated, IsEntered};
 
 use crate::goals::push_next;
 use crate::terms::{Next, Terms};
@@ -18,6 +19,7 @@ pub(crate) fn equate<C>(terms: &mut Terms<C>, left: Cell, right: Cell) -> Result
     requires right { IsBuilt terms.old right }
     ensures terms { OnOk result (AreTerms terms.new) }
     ensures names { terms.new.names ≡ terms.old.names }
+    ensures cells { OnOk result (KeepsBound (unifier (built terms.old left) (built terms.old right)) terms.old terms.new) }
     ensures equated { IfOk result (AreEquated (built terms.old left) (built terms.old right) [] (said terms.old) (said terms.new)) }
     ensures err { OnErr result ((said terms.new).stack ≡ (said terms.old).stack) }
 {

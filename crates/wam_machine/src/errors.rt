@@ -2,7 +2,7 @@
 ghost use Rattle.std.specs.Prelude.{◌≡◌, suc, ◌<◌, IfOk, codes};
 ghost use Rattle.prolog_terms.specs.Faults.{fault_tree};
 ghost use Rattle.prolog_terms.specs.declared.fault.Fault.TheVariants.{Existence, Instantiation, Representation};
-ghost use Rattle.wam_machine.specs.Machine.{not_callable};
+ghost use Rattle.wam_machine.specs.Machine.{not_callable, not_integer, halt_with};
 ghost use Rattle.wam_machine.specs.Terms.{AreTerms, IsBuilt, built};
 
 use crate::terms::Terms;
@@ -68,4 +68,47 @@ pub(crate) fn not_indicator(alloc: Global) -> Result<Indicator, Want>
         name: Name::of(alloc, b"\\+")?,
         arity: 1,
     })
+}
+
+/// The name and arity of `catch`.
+pub(crate) fn catch_indicator(alloc: Global) -> Result<Indicator, Want>
+    ensures { IfOk result (λ i. i ≡ record { name = codes "catch"; arity = 3 }) }
+{
+    Ok(Indicator {
+        name: Name::of(alloc, b"catch")?,
+        arity: 3,
+    })
+}
+
+/// The error of an unbound ball.
+pub(crate) fn unbound_ball(alloc: Global) -> Result<Term, Want>
+    ensures { IfOk result (λ t. t ≡ fault_tree Instantiation (record { name = codes "throw"; arity = 1 })) }
+{
+    let throw = Indicator {
+        name: Name::of(alloc, b"throw")?,
+        arity: 1,
+    };
+    unbound(alloc, &throw)
+}
+
+/// The name and arity of `halt` with a number.
+pub(crate) fn halt_indicator(alloc: Global) -> Result<Indicator, Want>
+    ensures { IfOk result (λ i. i ≡ halt_with) }
+{
+    Ok(Indicator {
+        name: Name::of(alloc, b"halt")?,
+        arity: 1,
+    })
+}
+
+/// The error of a `halt` with a term that is no integer; its variables are numbered from 0.
+pub(crate) fn no_integer<C>(alloc: Global, terms: &Terms<C>, code: Cell) -> Result<Term, Want>
+    requires terms { AreTerms terms.now }
+    requires code { IsBuilt terms.now code }
+    ensures { IfOk result (λ t. t ≡ fault_tree (not_integer (built terms.now code)) halt_with) }
+{
+    let culprit = terms.store.read_back(&terms.names, code)?;
+    let integer = Name::of(alloc, b"integer")?;
+    let halt = halt_indicator(alloc)?;
+    fault_term(alloc, &Fault::OfType(integer, culprit), &halt)
 }

@@ -1,5 +1,6 @@
 // What is still to be done.
 ghost use Rattle.std.specs.Prelude.{◌≡◌, ◌≤◌, ◌∷◌, [], OnOk, OnErr, MatchOption, reverse};
+ghost use Rattle.wam_machine.specs.Machine.{active_catch as catch_among};
 ghost use Rattle.wam_machine.specs.Terms.{AreTerms, IsNext, IsBuilt, KeepsCells, said, built, next_now, frames_kept};
 
 use crate::terms::{Frame, Next, Terms};
@@ -52,4 +53,20 @@ pub(crate) fn push_next<C>(terms: &mut Terms<C>, what: Next) -> Result<(), Want>
     })?;
     terms.next = terms.frames.len();
     Ok(())
+}
+
+/// The innermost `catch` whose end is still to come, by the height of the stack with its mark on it.
+pub(crate) fn active_catch<C>(terms: &Terms<C>) -> Option<usize>
+    requires { AreTerms terms.now }
+    ensures { result ≡ catch_among (said terms.now).goals }
+{
+    let mut left = terms.next;
+    while left > 0 {
+        let frame = terms.frames[left - 1];
+        if let Next::CatchEnd(height) = frame.what {
+            return Some(height);
+        }
+        left = frame.next;
+    }
+    None
 }

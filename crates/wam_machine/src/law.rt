@@ -1,5 +1,5 @@
 // Laws of the machine's definition.
-ghost use Rattle.wam_machine.specs.Machine.{TranscriptIsOne, StepsAreWithin, HasTranscript, GoalsAreBodies, EachGoalRuns, LegalHasBodies, EngineLaws};
+ghost use Rattle.wam_machine.specs.Machine.{TranscriptIsOne, StepsAreWithin, HasTranscript, GoalsAreBodies, CatchesHaveMarks, EachGoalRuns, LegalHasBodies, EngineLaws};
 ghost use Rattle.wam_machine.specs.Spine.{BodiesByWalk};
 ghost use Rattle.wam_machine.specs.Rows.{HasRows};
 
@@ -10,6 +10,11 @@ pub fn transcript()
     ensures within { StepsAreWithin }
     ensures total { HasTranscript }
     ensures goals { GoalsAreBodies }
+{}
+
+/// A ball that comes to the end of the active `catch` finds its mark.
+pub fn catches_have_marks()
+    ensures { CatchesHaveMarks }
 {}
 
 /// Worked rows of the machine's definition, computed.

@@ -1,6 +1,7 @@
 //! The machine: it runs a goal over the clauses of a base.
 #![tactic(auto)]
 
+mod balls;
 mod bodies;
 mod build;
 mod choices;
@@ -16,6 +17,7 @@ mod keys;
 mod law;
 mod machine;
 mod procedures;
+mod raising;
 mod run;
 mod running;
 mod shown;
@@ -23,5 +25,5 @@ mod state;
 mod terms;
 
 pub use engine::Engine;
-pub use law::{bodies_by_walk, each_goal_runs, engine_laws, rows, transcript};
+pub use law::{bodies_by_walk, catches_have_marks, each_goal_runs, engine_laws, rows, transcript};
 pub use run::{Event, Events, Fronts, Goal, Run, RunEnd};

@@ -14,16 +14,16 @@ ghost use Rattle.wam_machine.specs.View.{setting, calls, turn_calls, Acts, IsRea
 use crate::choices::{Newest, any_open, go_back, see_newest};
 use crate::constructs::{construct, repeat};
 use crate::control::{Control, goal_control};
-use crate::cuts::{cut_stack, end_not};
+use crate::cuts::{cut_stack, end_not, leave_catch};
 use crate::goals::{push_next, take_next};
 use crate::procedures::{call, take};
+use crate::raising::{halt, raise};
 use crate::run::{Event, RunEnd};
 use crate::shown::values;
 use crate::state::{Host, Machine, Mode};
 use crate::terms::{Alternative, Next};
 use journal_base::{Base, Gate};
 use prolog_terms::Want;
-use std::mem;
 use std::sync::Wait;
 use term_store::Cell;
 
@@ -46,7 +46,7 @@ pub(crate) fn advance<B: Base, R: Wait, G: Gate>(
     match &machine.mode {
         Mode::Going => go_on(base, machine, host, rt, gate),
         Mode::Failing => retry(base, machine, host),
-        Mode::Raising(_) => Ok(raise(machine)),
+        Mode::Raising(_ball) => raise(base, machine, host),
     }
 }
 
@@ -80,6 +80,10 @@ fn go_on<B: Base, R: Wait, G: Gate>(
         }
         Some(Next::NotEnd(height)) => {
             end_not(base, machine, host, height);
+            Ok(None)
+        }
+        Some(Next::CatchEnd(height)) => {
+            leave_catch(base, machine, host, height);
             Ok(None)
         }
     }
@@ -179,6 +183,12 @@ fn perform<B: Base, R: Wait, G: Gate>(
             call(base, machine, host, goal, &indicator, rt, gate)?;
             Ok(None)
         }
+        Control::Halt => Ok(Some(RunEnd::Halted(0))),
+        Control::HaltWith(code) => {
+            let end = halt(machine, host.alloc, code)?;
+            let _front = base.front();
+            Ok(end)
+        }
         other => {
             construct(machine, host.alloc, cut, other)?;
             let _front = base.front();
@@ -187,7 +197,7 @@ fn perform<B: Base, R: Wait, G: Gate>(
     }
 }
 
-/// After a failure the newest alternative is taken, and a mark of a `\\+` is passed; where there is neither the run is over.
+/// After a failure the newest alternative is taken, and a mark is passed; where there is neither the run is over.
 fn retry<B: Base>(
     base: &mut B,
     machine: &mut Machine<B::Cursor>,
@@ -204,7 +214,7 @@ fn retry<B: Base>(
 {
     match see_newest(&machine.terms) {
         Newest::Nothing => Ok(Some(RunEnd::Exhausted)),
-        Newest::Mark => {
+        Newest::Mark | Newest::Catch => {
             pass_mark(machine);
             Ok(None)
         }
@@ -212,7 +222,7 @@ fn retry<B: Base>(
     }
 }
 
-/// Passes the mark of a `\+`, without a step: what comes behind it goes on.
+/// Passes a mark, without a step: behind a `\+` the machine goes on, and at a `catch` the failure goes further.
 fn pass_mark<C>(machine: &mut Machine<C>)
     requires failing { machine.old.mode ≡ Mode.Failing }
     requires terms { AreTerms machine.old.terms }
@@ -223,6 +233,7 @@ fn pass_mark<C>(machine: &mut Machine<C>)
         Some(Alternative::NotMark) => {
             machine.mode = Mode::Going;
         }
+        Some(Alternative::CatchMark(_catcher, _recovery)) => {}
         _ => unreachable!(),
     }
 }
@@ -295,18 +306,10 @@ fn resume<B: Base>(
             let _front = base.front();
             Ok(())
         }
-    }
-}
-
-/// The ball that is raised ends the run, since nothing catches it.
-fn raise<C>(machine: &mut Machine<C>) -> Option<RunEnd>
-    requires raising { IsRaising machine.old.mode }
-    ensures end { MatchOption result ⊥ (λ end. (ball : Tree) × ((machine.old.mode ≡ Mode.Raising ball) × (end ≡ RunEnd.Ball ball))) }
-    ensures same { machine.new ≡ record machine.old { mode = machine.new.mode } }
-{
-    match mem::replace(&mut machine.mode, Mode::Failing) {
-        Mode::Raising(ball) => Some(RunEnd::Ball(ball)),
-        Mode::Going => None,
-        Mode::Failing => None,
+        Alternative::CatchMark(_catcher, _recovery) => {
+            machine.mode = Mode::Failing;
+            let _front = base.front();
+            Ok(())
+        }
     }
 }

@@ -2,11 +2,11 @@
 ghost use Rattle.std.specs.Prelude.{◌≡◌, [], ◌++◌, ◌∷◌, OnOk, OnErr};
 
 use journal_base::Tally;
-use prolog_terms::{ShownVariables, Term, Want};
+use prolog_terms::{ShownVariables, Term, Want, Whole};
 use std::alloc::Global;
 use std::marker::Model;
 
-/// A goal of the command line, and its variables that are shown.
+/// A goal, and its variables that are shown.
 #[derive(Debug, Drop)]
 pub struct Goal {
     pub term: Term,
@@ -30,6 +30,8 @@ pub enum RunEnd {
     Ball(Term),
     /// So many steps were done, which is the budget, and a further one was asked for.
     Spent(u64),
+    /// The goal `halt` or `halt(N)`, with its number; that of `halt` is 0.
+    Halted(Whole),
     /// Memory was wanted.
     Want,
 }

@@ -98,7 +98,7 @@ fn first_goal<C>(alloc: Global, terms: &mut Terms<C>, goal: Cell) -> Result<Cell
 }
 
 /// A number above each variable of a term. Want is answered too where no number is.
-fn beyond_of(term: &Term) -> Result<u64, Want>
+pub(crate) fn beyond_of(term: &Term) -> Result<u64, Want>
     ensures { IfOk result (λ n. n ≡ beyond term.now) }
 {
     let nodes = term.nodes();

@@ -27,6 +27,8 @@ pub(crate) enum Next {
     ConditionEnd(usize),
     /// The end of the goal of a `\+`, and the height of the stack before it.
     NotEnd(usize),
+    /// The end of the goal of a `catch`, and the height of the stack with its mark on it.
+    CatchEnd(usize),
 }
 
 /// What is still to be done, and the number of the frame with what comes after it; 0 is none.
@@ -46,6 +48,8 @@ pub(crate) enum Alternative<C> {
     Again,
     /// Behind a `\+`. This is a mark, and no alternative.
     NotMark,
+    /// With a ball that unifies with the catcher, by the call of the recovery; a failure goes further. This is a mark, too.
+    CatchMark(Cell, Cell),
 }
 
 /// A moment that may be gone back to: how the machine then goes on, what comes after that, how many frames it may stand in,

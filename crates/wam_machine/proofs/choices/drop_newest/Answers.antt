@@ -1,6 +1,6 @@
 use Rattle.std.proofs.Common.{length, ap, refl, arith}
 use Rattle.wam_machine.specs.Terms.{said, saved_of}
-use Rattle.wam_machine.proofs.Marked.{none_there, stack-none, terms-dropped, said-dropped, stack-dropped, dropped-call, dropped-right, dropped-again, dropped-not}
+use Rattle.wam_machine.proofs.Marked.{none_there, stack-none, terms-dropped, said-dropped, stack-dropped, dropped-call, dropped-right, dropped-again, dropped-not, dropped-catch}
 use Rattle.wam_machine.proofs.choices.drop_newest.Goals as goal
 
 pub returns-in-Clauses-clause-terms : goal.returns-in-Clauses-clause-terms
@@ -46,6 +46,17 @@ pub returns-in-NotMark-clause-dropped : goal.returns-in-NotMark-clause-dropped
 returns-in-NotMark-clause-dropped g c =
     let t = c.args.terms.now in
     (saved_of t.names t.store t.frames.items c.in_ok-what.field-0, (stack-dropped t c.in_ok-what.field-0 c.pop.new.self c.in_ok-what.ensures.items, dropped-not _ _ c.in-NotMark.is))
+
+pub returns-in-CatchMark-clause-terms : goal.returns-in-CatchMark-clause-terms
+returns-in-CatchMark-clause-terms g c = terms-dropped c.args.terms.now c.in_ok-what.field-0 c.pop.new.self c.in_ok-what.ensures.items
+
+pub returns-in-CatchMark-clause-said : goal.returns-in-CatchMark-clause-said
+returns-in-CatchMark-clause-said g c = said-dropped c.args.terms.now c.in_ok-what.field-0 c.pop.new.self c.in_ok-what.ensures.items
+
+pub returns-in-CatchMark-clause-dropped : goal.returns-in-CatchMark-clause-dropped
+returns-in-CatchMark-clause-dropped g c =
+    let t = c.args.terms.now in
+    (saved_of t.names t.store t.frames.items c.in_ok-what.field-0, (stack-dropped t c.in_ok-what.field-0 c.pop.new.self c.in_ok-what.ensures.items, dropped-catch _ _ _ _ c.in-CatchMark.is))
 
 pub returns-in_err-what-clause-said : goal.returns-in_err-what-clause-said
 unfolding said

@@ -42,3 +42,15 @@ returns-in-Once-clause-acts g c =
     let m = c.args.machine.now in
     let n = c.once.new.machine in
     on_ok c.once.result _ _ (λ h x t. subst (λ (d : Control). Acts (performing x t c.args.cut (control_in (built m.terms) d)) m n) (sym c.in-Once.is) h) c.once.ensures.acts
+
+pub returns-in-Catch-clause-acts : goal.returns-in-Catch-clause-acts
+returns-in-Catch-clause-acts g c =
+    let m = c.args.machine.now in
+    let n = c.catch.new.machine in
+    on_ok c.catch.result _ _ (λ h x t. subst (λ (d : Control). Acts (performing x t c.args.cut (control_in (built m.terms) d)) m n) (sym c.in-Catch.is) h) c.catch.ensures.acts
+
+pub returns-in-Throw-clause-acts : goal.returns-in-Throw-clause-acts
+returns-in-Throw-clause-acts g c =
+    let m = c.args.machine.now in
+    let n = c.throw.new.machine in
+    on_ok c.throw.result _ _ (λ h x t. subst (λ (d : Control). Acts (performing x t c.args.cut (control_in (built m.terms) d)) m n) (sym c.in-Throw.is) h) c.throw.ensures.acts

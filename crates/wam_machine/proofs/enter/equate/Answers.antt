@@ -6,6 +6,7 @@ use Rattle.term_store.proofs.Laws.{longer-itself}
 use Rattle.wam_machine.proofs.Grown.{Grows}
 use Rattle.wam_machine.proofs.Told.{at_err, stack-later, terms-later}
 use Rattle.wam_machine.proofs.Entered.{equated-unified, equated-refused, still-unified, undone}
+use Rattle.wam_machine.proofs.Under.{bound-unified, bound-refused}
 use Rattle.wam_machine.proofs.enter.equate.Goals as goal
 
 pub unify-requires-clause-a : goal.unify-requires-clause-a
@@ -51,6 +52,17 @@ returns-then-branch-clause-equated g c = let t = c.args.terms.now in
     })
     c.unify.ensures.compounds c.unify.ensures.variables (c.in_ok-unify.ensures.unified c.if-branch.true t.names)
 
+pub returns-then-branch-clause-cells : goal.returns-then-branch-clause-cells
+returns-then-branch-clause-cells g c = let t = c.args.terms.now in
+    bound-unified t c.unify.new.self c.args.left c.args.right
+    (record {
+      formed = subst IsShape c.mark-mark.ensures.same c.mark-mark.ensures.can.formed;
+      named = c.requires.terms.named;
+      later = c.unify.ensures.later;
+      longer = longer-itself t.names;
+    })
+    c.unify.ensures.compounds (c.in_ok-unify.ensures.unified c.if-branch.true t.names)
+
 pub returns-clause-terms : goal.returns-clause-terms
 returns-clause-terms g c = let t = c.args.terms.now in
     subst (λ (s : Shape). AreTerms (record t { store = s }))
@@ -64,3 +76,10 @@ returns-clause-equated g c = let t = c.args.terms.now in
     (c.in_ok-unify.ensures.refused c.if-branch.false t.names c.requires.terms.distinct c.requires.terms.named c.requires.left c.requires.right)
     (ap (λ (s : Shape). said (record t { store = s }))
     (c.undo_to.ensures ∙ undone c.mark-mark.result t.store c.unify.new.self c.mark-mark.ensures.can c.mark-mark.ensures.same c.unify.ensures.later c.unify.ensures.variables))
+
+pub returns-clause-cells : goal.returns-clause-cells
+unfolding IsBuilt
+returns-clause-cells g c = let t = c.args.terms.now in
+    bound-refused t c.undo_to.new.self c.args.left c.args.right
+    (c.in_ok-unify.ensures.refused c.if-branch.false t.names c.requires.terms.distinct c.requires.terms.named c.requires.left c.requires.right)
+    (c.undo_to.ensures ∙ undone c.mark-mark.result t.store c.unify.new.self c.mark-mark.ensures.can c.mark-mark.ensures.same c.unify.ensures.later c.unify.ensures.variables)

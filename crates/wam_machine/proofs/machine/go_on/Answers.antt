@@ -1,6 +1,6 @@
 use Rattle.std.proofs.Common.{sym, ◌≡◌, ◌++◌, ◌∷◌, [], refl, ap, ◌∙◌, subst}
 use Rattle.prolog_terms.specs.Substitutions.{substituted, numbered}
-use Rattle.wam_machine.specs.Machine.{Setting, Do, ConditionEnd, NotEnd, Goes, fails, cut_back}
+use Rattle.wam_machine.specs.Machine.{Setting, Do, ConditionEnd, NotEnd, CatchEnd, Goes, fails, cut_back, leaving_catch}
 use Rattle.wam_machine.specs.Terms.{Said, said, built, next_now, is_any_open}
 use Rattle.wam_machine.specs.View.{setting, performs_goal, Does}
 use Rattle.wam_machine.specs.declared.run.Event.TheVariants.{Answer}
@@ -68,3 +68,15 @@ returns-in-Some-NotEnd-clause-moves g c = λ j b.
     let some = subst (λ (k : Waiting). (said m.terms).goals ≡ next_now t k ∷ (said t).goals) c.in-Some-NotEnd.field-0-is c.in-Some-NotEnd.ensures.none in
     goes_next g.B.Base.rest g.B.Base.may_visit g.B.Base.looked_at g.B.Base.ahead _ (setting c.args.host.now m j) m t (NotEnd h) (λ s. fails (cut_back h s)) c.requires.going some c.in-Some-NotEnd.ensures.same
     (λ s gs. refl) j c.end_not.new.machine (c.end_not.ensures.goes j b)
+
+pub leave_catch-requires : goal.leave_catch-requires
+leave_catch-requires g c = record { ready = ready_taken _ _ _ _ _ _ _ _ c.args.machine.now c.take_next.new.terms c.requires.ready c.in-Some-CatchEnd.ensures.terms c.in-Some-CatchEnd.ensures.same }
+
+pub returns-in-Some-CatchEnd-clause-moves : goal.returns-in-Some-CatchEnd-clause-moves
+returns-in-Some-CatchEnd-clause-moves g c = λ j b.
+    let m = c.args.machine.now in
+    let t = c.take_next.new.terms in
+    let h = c.in-Some-CatchEnd.height in
+    let some = subst (λ (k : Waiting). (said m.terms).goals ≡ next_now t k ∷ (said t).goals) c.in-Some-CatchEnd.field-0-is c.in-Some-CatchEnd.ensures.none in
+    goes_next g.B.Base.rest g.B.Base.may_visit g.B.Base.looked_at g.B.Base.ahead _ (setting c.args.host.now m j) m t (CatchEnd h) (λ s. Goes (leaving_catch h s)) c.requires.going some c.in-Some-CatchEnd.ensures.same
+    (λ s gs. refl) j c.leave_catch.new.machine (c.leave_catch.ensures.goes j b)

@@ -5,7 +5,7 @@ use Rattle.prolog_lexer.specs.Classes.{class, is_word, is_symbol, in_line}
 use Rattle.prolog_lexer.specs.Digits.{is_digit_of, begins_with_digit, value}
 use Rattle.prolog_lexer.specs.Quotes.{begins_with}
 use Rattle.prolog_lexer.specs.Pieces.{begins_comment, is_break}
-use Rattle.prolog_lexer.specs.Streams.{tokens, line_after}
+use Rattle.prolog_lexer.specs.Streams.{stream, line_after}
 use Rattle.prolog_lexer.specs.Escapes.{AreAll, EndsRun, AreDigits, Inside, BadEscape, Character, plain, quote, escape, BadCharacter, text_end, line_end, one_quote, continuation}
 use Rattle.prolog_lexer.specs.Escapes as escapes
 use Rattle.prolog_lexer.specs.Tokens.{Tokens, Ending, at_end, at_fault, line_past, is_end, goes_on, Radix, hexadecimal, octal, binary, Quoting, names, texts, stream_of, listed, ending, text_ends, layout, line_comment, closed_comment, open_comment, name, variable, solo, symbols, stop, punctuation, decimal, decimal_too_large, based, based_too_large, character, no_character, quoted, open_quote, bad_escape, no_token}
@@ -218,18 +218,18 @@ ending-stream_of [] at_end = refl
 ending-stream_of [] (at_fault f) = refl
 ending-stream_of (t ∷ ts) e = ending-stream_of ts e
 
-pub tokens_given : (text : List ℕ) (ts : List Token) (e : Ending) → Tokens 0 1 text ts e → tokens text ≡ stream_of ts e
-tokens_given text ts e t = stream_is t
+pub tokens_given : (at line : ℕ) (text : List ℕ) (ts : List Token) (e : Ending) → Tokens at line text ts e → stream 0 at line text ≡ stream_of ts e
+tokens_given at line text ts e t = stream_is t
 
-pub tokens_had : (text : List ℕ) → Tokens 0 1 text (listed (tokens text)) (ending (tokens text))
-tokens_had text =
-    let h = has_tokens (length text) text 0 1 (omega arith) in
-    let s : tokens text ≡ stream_of h.ts h.e = stream_is h.have in
-    let l : h.ts ≡ listed (tokens text) = sym (ap listed s ∙ listed-stream_of h.ts h.e) in
-    let e : h.e ≡ ending (tokens text) = sym (ap ending s ∙ ending-stream_of h.ts h.e) in
-    subst (λ x. Tokens 0 1 text x (ending (tokens text))) l (subst (λ x. Tokens 0 1 text h.ts x) e h.have)
+pub tokens_had : (at line : ℕ) (text : List ℕ) → Tokens at line text (listed (stream 0 at line text)) (ending (stream 0 at line text))
+tokens_had at line text =
+    let h = has_tokens (length text) text at line (omega arith) in
+    let s : stream 0 at line text ≡ stream_of h.ts h.e = stream_is h.have in
+    let l : h.ts ≡ listed (stream 0 at line text) = sym (ap listed s ∙ listed-stream_of h.ts h.e) in
+    let e : h.e ≡ ending (stream 0 at line text) = sym (ap ending s ∙ ending-stream_of h.ts h.e) in
+    subst (λ x. Tokens at line text x (ending (stream 0 at line text))) l (subst (λ x. Tokens at line text h.ts x) e h.have)
 
-pub tokens_once : (text : List ℕ) (ts us : List Token) (e f : Ending) → Tokens 0 1 text ts e → Tokens 0 1 text us f → (ts ≡ us) × (e ≡ f)
-tokens_once text ts us e f t u =
-    let s : stream_of ts e ≡ stream_of us f = sym (tokens_given text ts e t) ∙ tokens_given text us f u in
+pub tokens_once : (at line : ℕ) (text : List ℕ) (ts us : List Token) (e f : Ending) → Tokens at line text ts e → Tokens at line text us f → (ts ≡ us) × (e ≡ f)
+tokens_once at line text ts us e f t u =
+    let s : stream_of ts e ≡ stream_of us f = sym (tokens_given at line text ts e t) ∙ tokens_given at line text us f u in
     (sym (listed-stream_of ts e) ∙ ap listed s ∙ listed-stream_of us f, sym (ending-stream_of ts e) ∙ ap ending s ∙ ending-stream_of us f)

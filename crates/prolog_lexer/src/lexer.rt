@@ -54,8 +54,9 @@ impl<'a> Lexer<'a> {
         }
     }
 
-    /// The next token, a fault where the bytes at the place are no token, or the end of the text. After a fault the
-    /// lexer stays where it is, and answers the same again; so it does after want of memory.
+    /// The next token, a fault where the next bytes that are no layout and no comment are no token, or the end of the text.
+    /// A token is no longer ahead. After a fault, at the end and after want of memory what is ahead stays as it was, so that
+    /// the same is answered again, though layout and comments may have been passed over.
     pub fn next(&mut self, alloc: Global) -> Result<Lexed, Want>
         ensures next { IfOk result (λ found. Gives found (ahead self.old) (ahead self.new)) }
         ensures err { OnErr result (ahead self.new ≡ ahead self.old) }

@@ -13,6 +13,13 @@ use std::env;
 use std::io::ErrorKind;
 use std::process::ExitCode;
 
+#[cfg(test)]
+mod stream_tests;
+#[cfg(test)]
+mod tests;
+#[cfg(test)]
+mod text_tests;
+
 /// The sizes of the database: its words and its updates.
 const SIZES: Sizes = Sizes {
     words: 16_777_216,

@@ -6,6 +6,8 @@ mod Turns
 mod Rules
 mod Sound
 mod Complete
+mod Stopping
+mod Total
 mod Facts
 mod Found
 pub mod Sentences

@@ -20,6 +20,7 @@ use Rattle.prolog_reader.specs.declared.reader.ReadTerm.{ReadTerm}
 use Rattle.prolog_reader.specs.Numberings.{Numbering, no_variables, shown_of}
 use Rattle.prolog_reader.specs.Grammar.{Found, read}
 use Rattle.prolog_reader.specs.Reads.{Reads}
+use Rattle.prolog_reader.specs.Stops.{StopsAt}
 
 abbrev pub is_stop : TokenKind → Bool
 is_stop Stop = true
@@ -135,6 +136,25 @@ ByCases ops ts (Stopped line) r = IsTheirReading ops ts r
 ByCases ops [] Out r = IsNothing r
 ByCases ops (t ∷ ts) Out r = IsRefusal r
 ByCases ops ts (Faulty f) r = IsRefusal r
+
+-- the tokens before an End stop being read, by the cases of the grammar, with the fault of this number
+pub record IsTheirFault (ops : Table) (ts : List Token) (fault : ℕ) : Type 0 where
+  pub kind : Fault
+  pub left : List Token  -- from the first token on at which no rule applies
+  pub stops : StopsAt ops ts kind left
+  pub is : fault ≡ number kind
+
+abbrev pub IsFaultOf : Table → List Token → Ended → ℕ → Type 0
+IsFaultOf ops ts (Stopped line) fault = IsTheirFault ops ts fault
+IsFaultOf ops ts Out fault = fault ≡ 6
+IsFaultOf ops ts (Faulty f) fault = fault ≡ f.number
+
+-- What is refused of tokens that end so: before an End for the fault with which they stop being read, at the end of the text for
+-- 6, and at a fault of the lexer for that; in the line of the first token or, where there is none, of what comes.
+abbrev pub HasFault : Table → List Token → Ended → Read → Type 0
+HasFault ops ts how (Term r) = Unit {0}
+HasFault ops ts how End = Unit {0}
+HasFault ops ts how (Refused line fault) = (line ≡ line_of ts how) × IsFaultOf ops ts how fault
 
 -- The variables are numbered from 0 by first occurrence, and each that is shown stands in the term.
 pub record HasItsVariables (r : Reading) : Type 0 where

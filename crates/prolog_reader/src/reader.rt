@@ -5,7 +5,7 @@ ghost use Rattle.prolog_reader.specs.Grammar as grammar;
 ghost use Rattle.prolog_terms.specs.Flat.{front};
 ghost use Rattle.prolog_reader.specs.Orders.{IsOneTerm};
 ghost use Rattle.prolog_reader.specs.Texts as texts;
-ghost use Rattle.prolog_reader.specs.Texts.{Says, ByCases, Numbers, upto, HasItsVariables, reading_of, read_reading};
+ghost use Rattle.prolog_reader.specs.Texts.{Says, ByCases, HasFault, Numbers, upto, HasItsVariables, reading_of, read_reading};
 
 use crate::order::term_of;
 use crate::parser::{Parser, read};
@@ -50,13 +50,14 @@ pub enum Read {
 /// The number of the fault where the text ends within a read-term.
 const NO_END: u8 = 6;
 
-/// Reads the next read-term: its tokens up to the next End, and the term that they are under these operators. Behind it
-/// the lexer stands after the End or, where none came, at the fault or at the end of the text; for want of memory it
-/// stays where it is.
+/// Reads the next read-term: its tokens up to the next End, and the term that they are under these operators. What the lexer
+/// has ahead then is what stands behind the End or, where none came, the fault or the end of the text; for want of memory
+/// what is ahead stays as it was.
 #[tactic(auto, unfolding(crate::specs::Texts::read_of))]
 pub fn read_term(alloc: Global, lexer: &mut Lexer, ops: &Ops) -> Result<Read, Want>
     ensures read { IfOk result (λ r. Says (texts.read_of ops.now (ahead lexer.old)) r) }
     ensures cases { IfOk result (λ r. ByCases ops.now (upto (ahead lexer.old)) (texts.tail (ahead lexer.old)).how r) }
+    ensures faults { IfOk result (λ r. HasFault ops.now (upto (ahead lexer.old)) (texts.tail (ahead lexer.old)).how r) }
     ensures variables { IfOk result (λ r. Numbers r) }
     ensures rest { IfOk result (λ _. ahead lexer.new ≡ (texts.tail (ahead lexer.old)).rest) }
     ensures err { OnErr result (ahead lexer.new ≡ ahead lexer.old) }
@@ -123,6 +124,7 @@ fn number(fault: Fault) -> u8
 fn answer(alloc: Global, ops: &Ops, tokens: &[Token], ended: Ended) -> Result<Read, Want>
     ensures says { IfOk result (λ r. Says (texts.answer ops.now tokens.now ended) r) }
     ensures cases { IfOk result (λ r. ByCases ops.now tokens.now ended r) }
+    ensures faults { IfOk result (λ r. HasFault ops.now tokens.now ended r) }
     ensures variables { IfOk result (λ r. Numbers r) }
 {
     let line = line_of(tokens, ended);

@@ -1,7 +1,7 @@
 // Texts, and what the language says of them.
 ghost use Rattle.std.specs.Prelude.{◌≤◌};
 
-use crate::{Read, ReadTerm, program_by_parts, read_term, reads_by_cases};
+use crate::{Read, ReadTerm, faults_by_cases, program_by_parts, read_term, reads_by_cases};
 use prolog_lexer::Lexer;
 use prolog_terms::{Name, Node, OpKind, Ops, Want};
 use std::alloc::Global;
@@ -392,6 +392,7 @@ fn reads_terms(rt: HostRuntime) {
 
 #[test]
 fn refuses_malformed_texts(rt: HostRuntime) {
+    faults_by_cases();
     let ops = Ops::initial(rt.alloc()).expect(&rt, "memory");
     check_rows(&rt, rt.alloc(), &ops, MALFORMED);
 }

@@ -1,6 +1,6 @@
 -- A load, one read-term after the other.
-use Rattle.std.proofs.Common.{◌≡◌, ℕ, ◌<◌, List, [], ◌∷◌, ◌++◌, append-nil, append_assoc, map, Bool, true, false, Option, Some, None, refl, sym, ◌∙◌, ap, subst, All}
-use Rattle.std.specs.Prelude.{if◌then◌else◌, IfSome}
+use Rattle.std.proofs.Common.{◌≡◌, ℕ, ◌<◌, List, [], ◌∷◌, ◌++◌, Bool, true, false, Option, Some, None, refl, sym, ◌∙◌, ap, subst, All}
+use Rattle.std.specs.Prelude.{if◌then◌else◌}
 use Rattle.std.proofs.lemmas.List.Elements.{All-append, All-cons, All-nil}
 use Rattle.prolog_terms.specs.Tree.{Tree}
 use Rattle.prolog_terms.specs.Indicators.{indicator_of}
@@ -35,7 +35,7 @@ use Rattle.prolog_session.specs.declared.part.Part.{Part}
 use Rattle.prolog_session.specs.declared.part.Part.TheVariants.{Clause, Operators, Goal, Kept, Nothing, Raises}
 use Rattle.prolog_session.specs.declared.part.Next.{Next}
 use Rattle.prolog_session.specs.declared.part.Next.TheVariants.{Taken, Refused, End}
-use Rattle.prolog_session.specs.Load.{assertz, no_change, not_added, part_of_clause, part_of_formed, part_of_term, part_of_directive, part_with, part_of, next_of, IsClauseOf, IsReadyPart, Item, a_clause, an_error, a_goal, ReadText, error_items, items_of, operators_after, kept_after, goals, with_items, before, text_under, text_of, with_clause, Loaded, after_clause, after_error, with_run, Loads, unloaded, journal_after, journal_of, IsLoadOf, operators_of, refusal_of}
+use Rattle.prolog_session.specs.Load.{no_change, not_added, part_of_clause, part_of_formed, part_of_term, part_of_directive, part_with, part_of, next_of, IsClauseOf, IsReadyPart, Item, a_clause, an_error, a_goal, ReadText, error_items, items_of, operators_after, kept_after, goals, with_items, before, text_under, text_of, with_clause, Loaded, after_clause, after_error, with_run, Loads, unloaded, journal_after, journal_of, IsLoadOf, operators_of, refusal_of}
 use Rattle.prolog_session.specs.declared.load.Loading.{Loading}
 use Rattle.prolog_session.specs.Bases.{sizes_of, holding, loaded_in, IsOfLoad}
 use Rattle.prolog_session.specs.Taking.{Takes}

@@ -1,5 +1,5 @@
 -- A text that is one read-term.
-use Rattle.std.proofs.Common.{◌≡◌, ℕ, List, [], ◌∷◌, Option, Some, None, refl, sym, ◌∙◌, ap, subst}
+use Rattle.std.proofs.Common.{◌≡◌, ℕ, List, Option, Some, None, sym, ◌∙◌, ap, subst}
 use Rattle.prolog_terms.specs.Operators.{Table, initial_operators}
 use Rattle.prolog_lexer.specs.Streams.{Stream, tokens}
 use Rattle.prolog_reader.specs.Texts.{Reading, Answer, a_term, nothing, refusal, read_of, read_reading, tail, Says, Program, program, after_answer}

@@ -20,14 +20,19 @@ use Rattle.prolog_session.specs.WholeText.{max_text}
 use Rattle.prolog_session.specs.Sinks.{AppendsPrefix}
 use Rattle.prolog_session.specs.Load.{IsLoadOf, operators_of, refusal_of}
 use Rattle.prolog_session.specs.Errors.{bad_words_text, source_text, too_long_text, refusal_text}
-use Rattle.prolog_session.specs.Headline.{IsRun, HasRuns, IsLoaded, IsEmpty, IsStatus, expected, expected_of, Ends, IsTooLong, HasLoaded, AreRunsOf, HasRun, HasWritten, HasRefused, Gains, HasBegun, of_bad_words, of_source, of_too_long, of_refusal, of_runs}
+use Rattle.prolog_session.specs.Headline.{IsRun, HasRuns, IsLoaded, IsEmpty, IsStatus, expected, expected_of, Ends, IsTooLong, HasLoaded, AreRunsOf, HasRun, Under, HasRefused, Gains, HasBegun, of_bad_words, of_source, of_too_long, of_refusal, of_runs}
 use Rattle.prolog_session.specs.Output.{load_text, output_of}
-use Rattle.prolog_session.specs.Prepared.{Prepares, HasRunUnder, status_before}
-use Rattle.prolog_session.specs.Ends.{final_status, final_journal, final_runs, runs_left, shown}
+use Rattle.prolog_session.specs.Prepared.{Prepares, status_before}
+use Rattle.prolog_session.specs.Ends.{final_status, final_journal, final_runs, final_operators, runs_left, shown}
 use Rattle.prolog_session.proofs.Loads.{Legal-journal_of}
 use Rattle.prolog_session.proofs.Rows.{status_small, is_not, run_is_not, run_is_not_2, run_is_not_3, run_is_not_4, run_is_not_5, run_is_not_8, not_ran, told_long, told_fits, told_loads, told_refusal, told_operators}
 
 -- ---- the outcome
+
+-- what is so of the journal, the runs and the operators that the table of statuses has is so of the outcome's
+pub of_outcome : (P : Journal → List Run → Option Table → Type 0) (j k : Journal) (r q : List Run) (o u : Option Table) → j ≡ k → r ≡ q → o ≡ u → P k q u → P j r o
+of_outcome P j k r q o u journal runs ops h =
+    subst (λ (x : Journal). P x r o) (sym journal) (subst (λ (x : List Run). P k x o) (sym runs) (subst (λ (x : Option Table). P k q x) (sym ops) h))
 
 asked_loads : (sizes : Sizes) (command : Option Command) (asked : Command) (bytes : List ℕ) (journal : Journal) (runs : List Run) → command ≡ Some asked
     → IsLoadOf sizes asked.steps bytes journal runs → IfSome command (λ c. IsLoadOf sizes c.steps bytes journal runs)
@@ -50,7 +55,7 @@ load_runs_row sizes command (Some bytes) sn (Ok p) Wanted h e = absurd (omega ar
 
 -- where the goal has run
 pub ran_row : (sizes : Sizes) (command : Option Command) (so sn : Option (List ℕ)) (p : Result Prepared Want) (w : Written) →
-    IfOk p (Prepares sizes command so sn) → HasRuns (final_status p w) → HasRun sizes command so sn (final_journal p w) (final_runs p w)
+    IfOk p (Prepares sizes command so sn) → HasRuns (final_status p w) → Under (final_operators p w) (HasRun sizes command so sn (final_journal p w) (final_runs p w))
 ran_row sizes command so sn (Err want) w h e = absurd (not_ran 6 e (λ f. omega arith) (λ f. omega arith) (λ f. omega arith) (λ f. omega arith))
 ran_row sizes command so sn (Ok p) Wanted h e = absurd (not_ran 6 e (λ f. omega arith) (λ f. omega arith) (λ f. omega arith) (λ f. omega arith))
 ran_row sizes command so sn (Ok BadWords) Wrote h e = absurd (not_ran 2 e (λ f. omega arith) (λ f. omega arith) (λ f. omega arith) (λ f. omega arith))
@@ -61,14 +66,15 @@ ran_row sizes command so sn (Ok TooLong) Wrote h e = absurd (not_ran 8 e (λ f. 
 ran_row sizes command so sn (Ok TooLong) Cut h e = absurd (not_ran 8 e (λ f. omega arith) (λ f. omega arith) (λ f. omega arith) (λ f. omega arith))
 ran_row sizes command so sn (Ok (Refused journal runs ops refusal)) Wrote h e = absurd (not_ran 3 e (λ f. omega arith) (λ f. omega arith) (λ f. omega arith) (λ f. omega arith))
 ran_row sizes command so sn (Ok (Refused journal runs ops refusal)) Cut h e = absurd (not_ran 3 e (λ f. omega arith) (λ f. omega arith) (λ f. omega arith) (λ f. omega arith))
-ran_row sizes command so sn (Ok (Ran journal runs ops)) Wrote h e = h.run
-ran_row sizes command so sn (Ok (Ran journal runs ops)) Cut h e = h.run
+ran_row sizes command so sn (Ok (Ran journal runs ops)) Wrote h e = h
+ran_row sizes command so sn (Ok (Ran journal runs ops)) Cut h e = h
 
 -- where the source tells its text, the runs are those of its load and of the command
-pub runs_told : (sizes : Sizes) (command : Option Command) (so sn : Option (List ℕ)) (journal : Journal) (runs : List Run) → HasRun sizes command so sn journal runs
+pub runs_told : (sizes : Sizes) (command : Option Command) (so sn : Option (List ℕ)) (journal : Journal) (runs : List Run) (o : Option Table) → Under o (HasRun sizes command so sn journal runs)
     → IfSome so (λ text. IfSome command (λ asked. AreRunsOf sizes text asked journal runs))
-runs_told sizes command None sn journal runs h = tt
-runs_told sizes command (Some bytes) sn journal runs h =
+runs_told sizes command None sn journal runs o h = tt
+runs_told sizes command (Some bytes) sn journal runs None h = absurd h
+runs_told sizes command (Some bytes) sn journal runs (Some ops) h =
     let P : Option Command → Type 0 = λ c. IfSome c (λ asked. AreRunsOf sizes bytes asked journal runs) in
     subst P (sym h.asked_is) (record { loads = h.loads; of_load = told_loads sizes h.asked.steps bytes sn journal h.loads None h.loaded; behind = h.runs_are })
 
@@ -86,14 +92,14 @@ apart k (inr (inl e)) = record { not_0 = λ h. omega arith; not_1 = λ h. omega 
 apart k (inr (inr (inl e))) = record { not_0 = λ h. omega arith; not_1 = λ h. omega arith; not_7 = λ h. omega arith; not_5 = λ h. omega arith; not_3 = λ h. omega arith }
 apart k (inr (inr (inr e))) = record { not_0 = λ h. omega arith; not_1 = λ h. omega arith; not_7 = λ h. omega arith; not_5 = λ h. omega arith; not_3 = λ h. omega arith }
 
-pub empty_row : (p : Result Prepared Want) (w : Written) → IsEmpty (final_status p w) → (final_journal p w ≡ []) × (final_runs p w ≡ [])
-empty_row (Err want) w e = (refl, refl)
-empty_row (Ok p) Wanted e = (refl, refl)
+pub empty_row : (p : Result Prepared Want) (w : Written) → IsEmpty (final_status p w) → (final_journal p w ≡ []) × ((final_runs p w ≡ []) × (final_operators p w ≡ None))
+empty_row (Err want) w e = (refl, (refl, refl))
+empty_row (Ok p) Wanted e = (refl, (refl, refl))
 empty_row (Ok (Ran journal runs ops)) Wrote e = let a = apart _ e in absurd (run_is_not _ runs a.not_0 a.not_1 a.not_7 refl)
 empty_row (Ok (Ran journal runs ops)) Cut e = absurd ((apart _ e).not_5 refl)
 empty_row (Ok (Refused journal runs ops refusal)) Wrote e = absurd ((apart _ e).not_3 refl)
 empty_row (Ok (Refused journal runs ops refusal)) Cut e = absurd ((apart _ e).not_3 refl)
-empty_row (Ok p) w e = (refl, refl)
+empty_row (Ok p) w e = (refl, (refl, refl))
 
 not_loaded : (k : ℕ) → IsEmpty k → IsLoaded k → ⊥
 not_loaded k e (inl (inl (inl h))) = (apart k e).not_0 h
@@ -101,6 +107,27 @@ not_loaded k e (inl (inl (inr (inl h)))) = (apart k e).not_1 h
 not_loaded k e (inl (inl (inr (inr h)))) = (apart k e).not_7 h
 not_loaded k e (inl (inr h)) = (apart k e).not_5 h
 not_loaded k e (inr h) = (apart k e).not_3 h
+
+-- where the source tells its text, the operators are those behind it, or at its refusal
+pub operators_row : (sizes : Sizes) (command : Option Command) (so sn : Option (List ℕ)) (p : Result Prepared Want) (w : Written) →
+    IfOk p (Prepares sizes command so sn) → IsLoaded (final_status p w) → IfSome so (λ text. final_operators p w ≡ Some (operators_of text))
+operators_row sizes command None sn p w h e = tt
+operators_row sizes command (Some bytes) sn (Err want) w h e = absurd (not_loaded 6 (inr (inr (inl refl))) e)
+operators_row sizes command (Some bytes) sn (Ok p) Wanted h e = absurd (not_loaded 6 (inr (inr (inl refl))) e)
+operators_row sizes command (Some bytes) sn (Ok BadWords) Wrote h e = absurd (not_loaded 2 (inl refl) e)
+operators_row sizes command (Some bytes) sn (Ok BadWords) Cut h e = absurd (not_loaded 2 (inl refl) e)
+operators_row sizes command (Some bytes) sn (Ok SourceFailed) Wrote h e = absurd (not_loaded 4 (inr (inl refl)) e)
+operators_row sizes command (Some bytes) sn (Ok SourceFailed) Cut h e = absurd (not_loaded 4 (inr (inl refl)) e)
+operators_row sizes command (Some bytes) sn (Ok TooLong) Wrote h e = absurd (not_loaded 8 (inr (inr (inr refl))) e)
+operators_row sizes command (Some bytes) sn (Ok TooLong) Cut h e = absurd (not_loaded 8 (inr (inr (inr refl))) e)
+operators_row sizes command (Some bytes) sn (Ok (Refused journal runs ops refusal)) Wrote h e =
+    ap Some (h.operators ∙ told_operators sizes h.asked.steps bytes sn journal runs (Some refusal) h.loaded)
+operators_row sizes command (Some bytes) sn (Ok (Refused journal runs ops refusal)) Cut h e =
+    ap Some (h.operators ∙ told_operators sizes h.asked.steps bytes sn journal runs (Some refusal) h.loaded)
+operators_row sizes command (Some bytes) sn (Ok (Ran journal runs ops)) Wrote h e =
+    ap Some (h.operators ∙ told_operators sizes h.asked.steps bytes sn journal h.loads None h.loaded)
+operators_row sizes command (Some bytes) sn (Ok (Ran journal runs ops)) Cut h e =
+    ap Some (h.operators ∙ told_operators sizes h.asked.steps bytes sn journal h.loads None h.loaded)
 
 loaded_legal : (sizes : Sizes) (budget : ℕ) (so sn : Option (List ℕ)) (journal : Journal) (runs : List Run) (refused : Option Refusal) → HasLoaded sizes budget so sn journal runs refused
     → Legal sizes.words sizes.updates journal
@@ -118,8 +145,8 @@ legal_row sizes command so sn (Ok TooLong) Wrote h e = absurd (not_loaded 8 (inr
 legal_row sizes command so sn (Ok TooLong) Cut h e = absurd (not_loaded 8 (inr (inr (inr refl))) e)
 legal_row sizes command so sn (Ok (Refused journal runs ops refusal)) Wrote h e = loaded_legal sizes h.asked.steps so sn journal runs (Some refusal) h.loaded
 legal_row sizes command so sn (Ok (Refused journal runs ops refusal)) Cut h e = loaded_legal sizes h.asked.steps so sn journal runs (Some refusal) h.loaded
-legal_row sizes command so sn (Ok (Ran journal runs ops)) Wrote h e = loaded_legal sizes h.run.asked.steps so sn journal h.run.loads None h.run.loaded
-legal_row sizes command so sn (Ok (Ran journal runs ops)) Cut h e = loaded_legal sizes h.run.asked.steps so sn journal h.run.loads None h.run.loaded
+legal_row sizes command so sn (Ok (Ran journal runs ops)) Wrote h e = loaded_legal sizes h.asked.steps so sn journal h.loads None h.loaded
+legal_row sizes command so sn (Ok (Ran journal runs ops)) Cut h e = loaded_legal sizes h.asked.steps so sn journal h.loads None h.loaded
 
 -- ---- what the sink gained
 
@@ -173,63 +200,57 @@ refused_gains rk ko kn ops other runs refusal same h = subst (λ (t : Table). Ga
 -- a text that was refused, and the text of its refusal
 pub in_part_row : (sizes : Sizes) (command : Option Command) (so sn ko kn : Option (List ℕ)) (rk : Type 0) (p : Result Prepared Want) (w : Written) →
     IfOk p (Prepares sizes command so sn) → AppendsPrefix ko kn (shown p) → (w ≡ Wrote → Appends ko kn (shown p)) → (w ≡ Cut → rk) →
-    final_status p w ≡ 3 → HasRefused sizes command so sn (final_journal p w) (final_runs p w) rk ko kn
+    final_status p w ≡ 3 → Under (final_operators p w) (HasRefused sizes command so sn (final_journal p w) (final_runs p w) rk ko kn)
 in_part_row sizes command so sn ko kn rk (Err want) w h prefix whole cut e = absurd (omega arith)
 in_part_row sizes command so sn ko kn rk (Ok (Refused journal runs ops refusal)) Wrote h prefix whole cut e =
-    record { asked = h.asked; asked_is = h.asked_is; refusal = refusal; loaded = h.loaded; gains = refused_gains rk ko kn ops (operators_of h.loaded.text) runs refusal h.operators (gains rk ko kn (load_text ops runs ++ refusal_text refusal) Wrote prefix whole cut (λ f. cc)) }
+    record { asked = h.asked; asked_is = h.asked_is; refusal = refusal; loaded = h.loaded; operators = h.operators; gains = gains rk ko kn (load_text ops runs ++ refusal_text refusal) Wrote prefix whole cut (λ f. cc) }
 in_part_row sizes command so sn ko kn rk (Ok (Refused journal runs ops refusal)) Cut h prefix whole cut e =
-    record { asked = h.asked; asked_is = h.asked_is; refusal = refusal; loaded = h.loaded; gains = refused_gains rk ko kn ops (operators_of h.loaded.text) runs refusal h.operators (gains rk ko kn (load_text ops runs ++ refusal_text refusal) Cut prefix whole cut (λ f. cc)) }
+    record { asked = h.asked; asked_is = h.asked_is; refusal = refusal; loaded = h.loaded; operators = h.operators; gains = gains rk ko kn (load_text ops runs ++ refusal_text refusal) Cut prefix whole cut (λ f. cc) }
 in_part_row sizes command so sn ko kn rk (Ok (Ran journal runs ops)) Wrote h prefix whole cut e = absurd (run_is_not_3 runs e)
 in_part_row sizes command so sn ko kn rk (Ok p) Wrote h prefix whole cut e = absurd (omega arith)
 in_part_row sizes command so sn ko kn rk (Ok p) Cut h prefix whole cut e = absurd (omega arith)
 in_part_row sizes command so sn ko kn rk (Ok p) Wanted h prefix whole cut e = absurd (omega arith)
 
 -- what the runs' text was
-written_under : (sizes : Sizes) (command : Option Command) (so sn : Option (List ℕ)) (journal : Journal) (runs : List Run) (ops : Table) (Writes : List ℕ → Type 0)
-    → HasRunUnder sizes command so sn journal runs ops → Writes (output_of ops runs) → HasWritten sizes command so sn journal runs Writes
-written_under sizes command so sn journal runs ops Writes h writes =
-    record { run = h.run; writes = subst (λ (t : Table). Writes (output_of t runs)) h.operators writes }
+pub output_row : (ko kn : Option (List ℕ)) (p : Result Prepared Want) (w : Written) → (w ≡ Wrote → Appends ko kn (shown p)) → IsRun (final_status p w)
+    → Under (final_operators p w) (λ ops. Appends ko kn (output_of ops (final_runs p w)))
+output_row ko kn (Ok (Ran journal runs ops)) Wrote whole e = whole refl
+output_row ko kn (Ok (Ran journal runs ops)) Cut whole e = absurd (is_not 5 e (λ f. omega arith) (λ f. omega arith) (λ f. omega arith))
+output_row ko kn (Err want) w whole e = absurd (is_not 6 e (λ f. omega arith) (λ f. omega arith) (λ f. omega arith))
+output_row ko kn (Ok p) Wanted whole e = absurd (is_not 6 e (λ f. omega arith) (λ f. omega arith) (λ f. omega arith))
+output_row ko kn (Ok BadWords) Wrote whole e = absurd (is_not 2 e (λ f. omega arith) (λ f. omega arith) (λ f. omega arith))
+output_row ko kn (Ok BadWords) Cut whole e = absurd (is_not 2 e (λ f. omega arith) (λ f. omega arith) (λ f. omega arith))
+output_row ko kn (Ok SourceFailed) Wrote whole e = absurd (is_not 4 e (λ f. omega arith) (λ f. omega arith) (λ f. omega arith))
+output_row ko kn (Ok SourceFailed) Cut whole e = absurd (is_not 4 e (λ f. omega arith) (λ f. omega arith) (λ f. omega arith))
+output_row ko kn (Ok TooLong) Wrote whole e = absurd (is_not 8 e (λ f. omega arith) (λ f. omega arith) (λ f. omega arith))
+output_row ko kn (Ok TooLong) Cut whole e = absurd (is_not 8 e (λ f. omega arith) (λ f. omega arith) (λ f. omega arith))
+output_row ko kn (Ok (Refused journal runs ops refusal)) Wrote whole e = absurd (is_not 3 e (λ f. omega arith) (λ f. omega arith) (λ f. omega arith))
+output_row ko kn (Ok (Refused journal runs ops refusal)) Cut whole e = absurd (is_not 3 e (λ f. omega arith) (λ f. omega arith) (λ f. omega arith))
 
-pub output_row : (sizes : Sizes) (command : Option Command) (so sn ko kn : Option (List ℕ)) (p : Result Prepared Want) (w : Written) →
-    IfOk p (Prepares sizes command so sn) → (w ≡ Wrote → Appends ko kn (shown p)) → IsRun (final_status p w)
-    → HasWritten sizes command so sn (final_journal p w) (final_runs p w) (λ output. Appends ko kn output)
-output_row sizes command so sn ko kn (Ok (Ran journal runs ops)) Wrote h whole e = written_under sizes command so sn journal runs ops (λ output. Appends ko kn output) h (whole refl)
-output_row sizes command so sn ko kn (Ok (Ran journal runs ops)) Cut h whole e = absurd (is_not 5 e (λ f. omega arith) (λ f. omega arith) (λ f. omega arith))
-output_row sizes command so sn ko kn (Err want) w h whole e = absurd (is_not 6 e (λ f. omega arith) (λ f. omega arith) (λ f. omega arith))
-output_row sizes command so sn ko kn (Ok p) Wanted h whole e = absurd (is_not 6 e (λ f. omega arith) (λ f. omega arith) (λ f. omega arith))
-output_row sizes command so sn ko kn (Ok BadWords) Wrote h whole e = absurd (is_not 2 e (λ f. omega arith) (λ f. omega arith) (λ f. omega arith))
-output_row sizes command so sn ko kn (Ok BadWords) Cut h whole e = absurd (is_not 2 e (λ f. omega arith) (λ f. omega arith) (λ f. omega arith))
-output_row sizes command so sn ko kn (Ok SourceFailed) Wrote h whole e = absurd (is_not 4 e (λ f. omega arith) (λ f. omega arith) (λ f. omega arith))
-output_row sizes command so sn ko kn (Ok SourceFailed) Cut h whole e = absurd (is_not 4 e (λ f. omega arith) (λ f. omega arith) (λ f. omega arith))
-output_row sizes command so sn ko kn (Ok TooLong) Wrote h whole e = absurd (is_not 8 e (λ f. omega arith) (λ f. omega arith) (λ f. omega arith))
-output_row sizes command so sn ko kn (Ok TooLong) Cut h whole e = absurd (is_not 8 e (λ f. omega arith) (λ f. omega arith) (λ f. omega arith))
-output_row sizes command so sn ko kn (Ok (Refused journal runs ops refusal)) Wrote h whole e = absurd (is_not 3 e (λ f. omega arith) (λ f. omega arith) (λ f. omega arith))
-output_row sizes command so sn ko kn (Ok (Refused journal runs ops refusal)) Cut h whole e = absurd (is_not 3 e (λ f. omega arith) (λ f. omega arith) (λ f. omega arith))
+pub output_cut_row : (ko kn : Option (List ℕ)) (p : Result Prepared Want) (w : Written) → AppendsPrefix ko kn (shown p) → final_status p w ≡ 5
+    → Under (final_operators p w) (λ ops. AppendsPrefix ko kn (output_of ops (final_runs p w)))
+output_cut_row ko kn (Ok (Ran journal runs ops)) Wrote prefix e = absurd (run_is_not_5 runs e)
+output_cut_row ko kn (Ok (Ran journal runs ops)) Cut prefix e = prefix
+output_cut_row ko kn (Err want) w prefix e = absurd (omega arith)
+output_cut_row ko kn (Ok p) Wanted prefix e = absurd (omega arith)
+output_cut_row ko kn (Ok p) Wrote prefix e = absurd (omega arith)
+output_cut_row ko kn (Ok p) Cut prefix e = absurd (omega arith)
 
-pub output_cut_row : (sizes : Sizes) (command : Option Command) (so sn ko kn : Option (List ℕ)) (p : Result Prepared Want) (w : Written) →
-    IfOk p (Prepares sizes command so sn) → AppendsPrefix ko kn (shown p) → final_status p w ≡ 5
-    → HasWritten sizes command so sn (final_journal p w) (final_runs p w) (λ output. AppendsPrefix ko kn output)
-output_cut_row sizes command so sn ko kn (Ok (Ran journal runs ops)) Wrote h prefix e = absurd (run_is_not_5 runs e)
-output_cut_row sizes command so sn ko kn (Ok (Ran journal runs ops)) Cut h prefix e = written_under sizes command so sn journal runs ops (λ output. AppendsPrefix ko kn output) h prefix
-output_cut_row sizes command so sn ko kn (Err want) w h prefix e = absurd (omega arith)
-output_cut_row sizes command so sn ko kn (Ok p) Wanted h prefix e = absurd (omega arith)
-output_cut_row sizes command so sn ko kn (Ok p) Wrote h prefix e = absurd (omega arith)
-output_cut_row sizes command so sn ko kn (Ok p) Cut h prefix e = absurd (omega arith)
+-- where the source tells its text, what was written is under the operators of that text
+pub output_told_row : (so ko kn : Option (List ℕ)) (runs : List Run) (o : Option Table) → Under o (λ ops. Appends ko kn (output_of ops runs))
+    → IfSome so (λ text. o ≡ Some (operators_of text)) → IfSome so (λ text. Appends ko kn (output_of (operators_of text) runs))
+output_told_row None ko kn runs o h is = tt
+output_told_row (Some bytes) ko kn runs o h is = subst (λ (q : Option Table). Under q (λ ops. Appends ko kn (output_of ops runs))) is h
 
--- where the source tells its text, its operators are those behind it
-pub output_told_row : (sizes : Sizes) (command : Option Command) (so sn ko kn : Option (List ℕ)) (journal : Journal) (runs : List Run)
-    → HasWritten sizes command so sn journal runs (λ output. Appends ko kn output) → IfSome so (λ text. Appends ko kn (output_of (operators_of text) runs))
-output_told_row sizes command None sn ko kn journal runs h = tt
-output_told_row sizes command (Some bytes) sn ko kn journal runs h =
-    subst (λ (t : Table). Appends ko kn (output_of t runs)) (told_operators sizes h.run.asked.steps bytes sn journal h.run.loads None h.run.loaded) h.writes
-
-pub refusal_told_row : (sizes : Sizes) (command : Option Command) (so sn ko kn : Option (List ℕ)) (journal : Journal) (runs : List Run) (rk : Type 0) → HasRefused sizes command so sn journal runs rk ko kn
+pub refusal_told_row : (sizes : Sizes) (command : Option Command) (so sn ko kn : Option (List ℕ)) (journal : Journal) (runs : List Run) (rk : Type 0) (o : Option Table)
+    → Under o (HasRefused sizes command so sn journal runs rk ko kn)
     → IfSome so (λ text. IfSome (refusal_of text) (λ refusal. Gains rk ko kn (load_text (operators_of text) runs ++ refusal_text refusal)))
-refusal_told_row sizes command None sn ko kn journal runs rk h = tt
-refusal_told_row sizes command (Some bytes) sn ko kn journal runs rk h =
-    let P : Option Refusal → Type 0 = λ o. IfSome o (λ refusal. Gains rk ko kn (load_text (operators_of bytes) runs ++ refusal_text refusal)) in
+refusal_told_row sizes command None sn ko kn journal runs rk o h = tt
+refusal_told_row sizes command (Some bytes) sn ko kn journal runs rk None h = absurd h
+refusal_told_row sizes command (Some bytes) sn ko kn journal runs rk (Some ops) h =
+    let P : Option Refusal → Type 0 = λ r. IfSome r (λ refusal. Gains rk ko kn (load_text (operators_of bytes) runs ++ refusal_text refusal)) in
     subst P (sym (told_refusal sizes h.asked.steps bytes sn journal runs (Some h.refusal) h.loaded))
-    (refused_gains rk ko kn (operators_of h.loaded.text) (operators_of bytes) runs h.refusal (told_operators sizes h.asked.steps bytes sn journal runs (Some h.refusal) h.loaded) h.gains)
+    (refused_gains rk ko kn ops (operators_of bytes) runs h.refusal (h.operators ∙ told_operators sizes h.asked.steps bytes sn journal runs (Some h.refusal) h.loaded) h.gains)
 
 -- ---- no other status
 
@@ -269,7 +290,7 @@ expected_told sizes command bytes sn TooLong other h = sym (taken command bytes 
 expected_told sizes command bytes sn (Refused journal runs ops refusal) other h =
     sym (expected_loaded sizes h.asked.steps command bytes sn journal runs (Some refusal) runs (is_some command h.asked h.asked_is) h.loaded)
 expected_told sizes command bytes sn (Ran journal runs ops) other h =
-    sym (expected_loaded sizes h.run.asked.steps command bytes sn journal h.run.loads None runs (is_some command h.run.asked h.run.asked_is) h.run.loaded)
+    sym (expected_loaded sizes h.asked.steps command bytes sn journal h.loads None runs (is_some command h.asked h.asked_is) h.loaded)
 
 -- words that are taken lead to another status than 2
 not_two : (b : Bool) (o : Option Refusal) (runs : List Run) → expected_of b o runs ≡ 2 → ⊥
@@ -336,9 +357,9 @@ wanted_row sizes command so sn ko kn rs (Ok (Refused journal runs ops refusal)) 
     })
 wanted_row sizes command so sn ko kn rs (Ok (Ran journal runs ops)) h f prefix =
     inr (record {
-      text = output_of (operators_of h.run.loaded.text) runs;
-      cause = of_runs journal runs h.run;
-      prefix = subst (λ (t : Table). AppendsPrefix ko kn (output_of t runs)) h.operators prefix;
+      text = output_of ops runs;
+      cause = of_runs journal runs ops h;
+      prefix = prefix;
     })
 
 pub statuses_row : (p : Result Prepared Want) (w : Written) → IsStatus (final_status p w)

@@ -1,21 +1,16 @@
 -- What a load needs of the parts of a text.
-use Rattle.std.proofs.Common.{◌≡◌, ℕ, List, [], ◌∷◌, ◌++◌, Option, Some, None, refl, sym, ◌∙◌, ap, arith, get_or}
-use Rattle.std.specs.Prelude.{IfOk, IfSome, IsTrue, Result, Ok, Err, codes, pos}
-use Rattle.prolog_terms.specs.Tree.{Tree, HasArities}
+use Rattle.std.proofs.Common.{◌≡◌, ℕ, List, sym, ◌∙◌, ap, arith, get_or}
+use Rattle.prolog_terms.specs.Tree.{Tree}
 use Rattle.prolog_terms.specs.Flat.{nodes, IsPrefixOrder, tree-nodes, tree}
 use Rattle.prolog_terms.specs.Faults.{indicator_tree}
-use Rattle.prolog_terms.specs.Indicators.{indicator_of}
-use Rattle.prolog_terms.specs.Substitutions.{occurs}
 use Rattle.prolog_terms.specs.declared.entry.Indicator.{Indicator}
 use Rattle.prolog_terms.specs.declared.node.Node.{Node}
-use Rattle.prolog_terms.specs.declared.shown.Shown.{Shown}
-use Rattle.prolog_clauses.specs.Directives.{IsGoalOf, IsReady, directive_of}
+use Rattle.prolog_clauses.specs.Directives.{IsGoalOf, IsReady}
 use Rattle.prolog_clauses.specs.declared.directive.Directive.{Directive}
 use Rattle.prolog_clauses.specs.declared.directive.Directive.TheVariants.{Operators as ForOperators, Nothing as ForNothing, Kept as ForTheEnd, Goal as ToRun}
 use Rattle.prolog_reader.specs.Texts.{Reading, HasItsVariables}
 use Rattle.wam_machine.specs.Runs.{AreShown}
-use Rattle.prolog_session.specs.Load.{part_of_directive, part_of_term, asked, IsReadyPart}
-use Rattle.prolog_session.proofs.Loads.{ready-term}
+use Rattle.prolog_session.specs.Load.{part_of_directive, asked, IsReadyPart}
 
 -- the shown variables of a directive's goal stand in it
 goal-shown : (line : ℕ) (r : Reading) (g : Tree) → HasItsVariables r → IsGoalOf r.term g → AreShown (asked line r.shown g).goal

@@ -15,9 +15,8 @@ use Rattle.wam_machine.specs.Runs.{AreShown}
 use Rattle.prolog_session.proofs.Loads.{Loads-append, AreAllShown}
 use Rattle.prolog_session.specs.declared.kept.TextGoal.{TextGoal}
 use Rattle.prolog_session.specs.declared.load.Loading.{Loading}
-use Rattle.prolog_session.specs.declared.part.Part.{Part}
 use Rattle.prolog_session.specs.declared.part.Part.TheVariants.{Clause, Operators, Goal, Kept, Nothing, Raises}
-use Rattle.prolog_session.specs.Load.{with_clause, Placed, Loaded, run_unless, raised, op, error_items, Item, a_goal, goals, Loads}
+use Rattle.prolog_session.specs.Load.{with_clause, Placed, Loaded, run_unless, raised, error_items, Item, a_goal, goals, Loads}
 use Rattle.prolog_session.specs.Bases.{sizes_of, loaded_in, error_runs, IsOfLoad, HasClause}
 use Rattle.prolog_session.specs.Taking.{Takes}
 

@@ -11,8 +11,8 @@ use Rattle.prolog_session.specs.declared.refusal.Refusal.{Refusal}
 use Rattle.prolog_session.specs.declared.words.Command.{Command}
 use Rattle.prolog_session.specs.Load.{IsLoadOf, journal_of, operators_of, refusal_of}
 use Rattle.prolog_session.specs.Runs.{AreRunsBehind}
-use Rattle.prolog_session.specs.Headline.{HasLoaded}
-use Rattle.prolog_session.specs.Prepared.{HasLoadedUnder, HasRunUnder}
+use Rattle.prolog_session.specs.Headline.{HasLoaded, HasRun}
+use Rattle.prolog_session.specs.Prepared.{HasLoadedUnder}
 
 pub has_command : (command : Option Command) (asked : Command) → command ≡ Some asked → IsSome command
 has_command None asked e = absurd cc
@@ -46,16 +46,14 @@ refused_under sizes command asked old new text bytes journal entries runs ops fo
 pub ran_under : (sizes : Sizes) (command : Option Command) (asked : Command) (old new : Option (List ℕ)) (text bytes : List ℕ) (journal entries : Journal) (loads runs : List Run) (ops : Table)
     (found : Option Refusal) → IsTaken old new text → bytes ≡ text → journal ≡ entries → entries ≡ journal_of sizes bytes → IsLoadOf sizes asked.steps bytes entries loads
     → ops ≡ operators_of bytes → found ≡ refusal_of bytes → found ≡ None → command ≡ Some asked → AreRunsBehind loads asked entries runs
-    → HasRunUnder sizes command old new journal runs ops
+    → HasRun sizes command old new journal runs ops
 ran_under sizes command asked old new text bytes journal entries loads runs ops found h same j all l o e is asks behind =
     let of_load : IsLoadOf sizes asked.steps bytes journal loads = subst (λ (J : Journal). IsLoadOf sizes asked.steps bytes J loads) (sym j) l in
     record {
-      run = record {
-        asked = asked;
-        asked_is = asks;
-        loads = loads;
-        loaded = loaded sizes asked.steps old new text bytes journal loads None h same (j ∙ all) of_load (sym is ∙ e);
-        runs_are = subst (λ (J : Journal). AreRunsBehind loads asked J runs) (sym j) behind;
-      };
+      asked = asked;
+      asked_is = asks;
+      loads = loads;
+      loaded = loaded sizes asked.steps old new text bytes journal loads None h same (j ∙ all) of_load (sym is ∙ e);
+      runs_are = subst (λ (J : Journal). AreRunsBehind loads asked J runs) (sym j) behind;
       operators = o;
     }

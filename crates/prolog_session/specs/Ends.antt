@@ -1,8 +1,9 @@
 -- How the program ends, once it has written.
-use Rattle.std.specs.Prelude.{◌≡◌, ℕ, List, [], Ok, Err}
+use Rattle.std.specs.Prelude.{◌≡◌, ℕ, List, [], Ok, Err, Some, None}
 use Rattle.std.specs.declared.option.Option.{Option}
 use Rattle.std.specs.declared.result.Result.{Result}
 use Rattle.std.specs.Io.KnownBytes.{Appends}
+use Rattle.prolog_terms.specs.Operators.{Table}
 use Rattle.prolog_terms.specs.declared.want.Want.{Want}
 use Rattle.prolog_session.specs.declared.writing.Written.{Written}
 use Rattle.prolog_session.specs.declared.writing.Written.TheVariants.{All as Wrote, Failed as Cut, Want as Wanted}
@@ -34,6 +35,17 @@ runs_left (Refused journal runs ops refusal) = runs
 runs_left (Ran journal runs ops) = runs
 runs_left prepared = []
 
+-- the operators behind a text, or at its refusal
+abbrev pub operators_left : Prepared → Option Table
+operators_left (Refused journal runs ops refusal) = Some ops
+operators_left (Ran journal runs ops) = Some ops
+operators_left prepared = None
+
+abbrev pub final_operators : Result Prepared Want → Written → Option Table
+final_operators (Err want) written = None
+final_operators (Ok prepared) Wanted = None
+final_operators (Ok prepared) written = operators_left prepared
+
 abbrev pub final_journal : Result Prepared Want → Written → Journal
 final_journal (Err want) written = []
 final_journal (Ok prepared) Wanted = []
@@ -49,11 +61,12 @@ shown (Err want) = []
 shown (Ok prepared) = text_before prepared
 
 -- what was written, and the outcome by how the writing went
-pub record Finishes (prepared : Result Prepared Want) (old new : Option (List ℕ)) (failed : Type 0) (status : ℕ) (journal : Journal) (runs : List Run) : Type 0 where
+pub record Finishes (prepared : Result Prepared Want) (old new : Option (List ℕ)) (failed : Type 0) (status : ℕ) (journal : Journal) (runs : List Run) (ops : Option Table) : Type 0 where
   pub written : Written
   pub status_is : status ≡ final_status prepared written
   pub journal_is : journal ≡ final_journal prepared written
   pub runs_are : runs ≡ final_runs prepared written
+  pub operators_are : ops ≡ final_operators prepared written
   pub prefix : AppendsPrefix old new (shown prepared)
   pub whole : written ≡ Wrote → Appends old new (shown prepared)
   pub cut : written ≡ Cut → failed

@@ -1,6 +1,7 @@
 -- What each status of the program means.
 use Rattle.std.specs.Prelude.{◌≡◌, ◌≢◌, ◌⊎◌, ℕ, ◌<◌, ◌≤◌, Bool, true, false, nat_lt, List, ◌++◌, length, Option, Some, None, IsSome, IsNone}
 use Rattle.std.specs.Io.KnownBytes.{Appends, Consumes, IsAtEnd}
+use Rattle.prolog_terms.specs.Operators.{Table}
 use Rattle.journal_base.specs.Journal.{Journal}
 use Rattle.journal_base.specs.declared.sizes.Sizes.{Sizes}
 use Rattle.wam_machine.specs.declared.run.Run.{Run}
@@ -80,13 +81,20 @@ pub record AreRunsOf (sizes : Sizes) (text : List ℕ) (command : Command) (jour
   pub of_load : IsLoadOf sizes command.steps text journal loads
   pub behind : AreRunsBehind loads command journal runs
 
--- A text was loaded whole, and the goal was run: the runs are those of the load, and then those of the command over its journal.
-pub record HasRun (sizes : Sizes) (command : Option Command) (old new : Option (List ℕ)) (journal : Journal) (runs : List Run) : Type 0 where
+-- A text was loaded whole, and the goal was run: the runs are those of the load, and then those of the command over its journal; and
+-- these are the operators behind the text.
+pub record HasRun (sizes : Sizes) (command : Option Command) (old new : Option (List ℕ)) (journal : Journal) (runs : List Run) (ops : Table) : Type 0 where
   pub asked : Command
   pub asked_is : command ≡ Some asked
   pub loads : List Run
   pub loaded : HasLoaded sizes asked.steps old new journal loads None
   pub runs_are : AreRunsBehind loads asked journal runs
+  pub operators : ops ≡ operators_of loaded.text
+
+-- there are operators, and this is so of them
+abbrev pub Under : Option Table → (Table → Type 0) → Type 0
+Under None P = ⊥
+Under (Some ops) P = P ops
 
 -- ---- what was written
 
@@ -95,18 +103,15 @@ pub record Gains (failed : Type 0) (old new : Option (List ℕ)) (bytes : List �
   pub prefix : AppendsPrefix old new bytes
   pub whole : Appends old new bytes ⊎ failed
 
--- a text that was taken whole was refused, and the sink gained the text of its load so far and of its refusal
-pub record HasRefused (sizes : Sizes) (command : Option Command) (old new : Option (List ℕ)) (journal : Journal) (runs : List Run) (failed : Type 0) (before after : Option (List ℕ)) : Type 0 where
+-- A text that was taken whole was refused, and these are the operators there; the sink gained the text of its load so far and of its
+-- refusal.
+pub record HasRefused (sizes : Sizes) (command : Option Command) (old new : Option (List ℕ)) (journal : Journal) (runs : List Run) (failed : Type 0) (before after : Option (List ℕ)) (ops : Table) : Type 0 where
   pub asked : Command
   pub asked_is : command ≡ Some asked
   pub refusal : Refusal
   pub loaded : HasLoaded sizes asked.steps old new journal runs (Some refusal)
-  pub gains : Gains failed before after (load_text (operators_of loaded.text) runs ++ refusal_text refusal)
-
--- A text was loaded whole and the goal was run, and this is so of the text of the runs, under the operators behind the text that was loaded.
-pub record HasWritten (sizes : Sizes) (command : Option Command) (old new : Option (List ℕ)) (journal : Journal) (runs : List Run) (Writes : List ℕ → Type 0) : Type 0 where
-  pub run : HasRun sizes command old new journal runs
-  pub writes : Writes (output_of (operators_of run.loaded.text) runs)
+  pub operators : ops ≡ operators_of loaded.text
+  pub gains : Gains failed before after (load_text ops runs ++ refusal_text refusal)
 
 -- what is to be written, by its cause: the words, the source that failed, or what was read
 pub data IsToBeWritten (sizes : Sizes) (command : Option Command) (failed : Type 0) (old new : Option (List ℕ)) : List ℕ → Type 0 where
@@ -115,8 +120,7 @@ pub data IsToBeWritten (sizes : Sizes) (command : Option Command) (failed : Type
   of_too_long : IsSome command → IsTooLong old new → IsToBeWritten sizes command failed old new too_long_text
   of_refusal : (asked : Command) (journal : Journal) (runs : List Run) (refusal : Refusal) → command ≡ Some asked → (h : HasLoaded sizes asked.steps old new journal runs (Some refusal))
       → IsToBeWritten sizes command failed old new (load_text (operators_of h.text) runs ++ refusal_text refusal)
-  of_runs : (journal : Journal) (runs : List Run) → (h : HasRun sizes command old new journal runs)
-      → IsToBeWritten sizes command failed old new (output_of (operators_of h.loaded.text) runs)
+  of_runs : (journal : Journal) (runs : List Run) (ops : Table) → HasRun sizes command old new journal runs ops → IsToBeWritten sizes command failed old new (output_of ops runs)
 
 -- the sink gained a prefix of what is to be written
 pub record HasBegun (sizes : Sizes) (command : Option Command) (failed : Type 0) (old new before after : Option (List ℕ)) : Type 0 where

@@ -22,17 +22,12 @@ pub record HasLoadedUnder (sizes : Sizes) (command : Option Command) (old new : 
   pub loaded : HasLoaded sizes asked.steps old new journal runs (Some refusal)
   pub operators : ops ≡ operators_of loaded.text
 
--- the goal has run, and these are the operators behind the text
-pub record HasRunUnder (sizes : Sizes) (command : Option Command) (old new : Option (List ℕ)) (journal : Journal) (runs : List Run) (ops : Table) : Type 0 where
-  pub run : HasRun sizes command old new journal runs
-  pub operators : ops ≡ operators_of run.loaded.text
-
 abbrev pub Prepares : Sizes → Option Command → Option (List ℕ) → Option (List ℕ) → Prepared → Type 0
 Prepares sizes command old new BadWords = IsNone command × Keeps old new
 Prepares sizes command old new SourceFailed = IsSome command
 Prepares sizes command old new TooLong = IsSome command × IsTooLong old new
 Prepares sizes command old new (Refused journal runs ops refusal) = HasLoadedUnder sizes command old new journal runs ops refusal
-Prepares sizes command old new (Ran journal runs ops) = HasRunUnder sizes command old new journal runs ops
+Prepares sizes command old new (Ran journal runs ops) = HasRun sizes command old new journal runs ops
 
 abbrev pub status_before : Prepared → ℕ
 status_before BadWords = 2

@@ -4,7 +4,7 @@ use Rattle.std.specs.List.{list_all}
 use Rattle.prolog_terms.specs.Clauses.{is_named}
 use Rattle.prolog_terms.specs.Operators.{initial_operators}
 use Rattle.prolog_lexer.specs.Streams.{tokens}
-use Rattle.prolog_reader.specs.Texts.{Reading, Program, program}
+use Rattle.prolog_reader.specs.Texts.{Reading, program}
 use Rattle.wam_machine.specs.declared.run.Goal.{Goal}
 use Rattle.wam_machine.specs.Runs.{AreShown}
 use Rattle.prolog_session.specs.declared.words.Command.{Command}

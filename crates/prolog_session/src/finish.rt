@@ -1,11 +1,11 @@
 // What is done after the preparation: the writing, and the outcome.
-ghost use Rattle.std.specs.Prelude.{◌≡◌, ◌≤◌, [], Ok};
+ghost use Rattle.std.specs.Prelude.{◌≡◌, ◌≤◌, [], Ok, None};
 ghost use Rattle.prolog_session.specs.FaultCounts.{Rose};
-ghost use Rattle.prolog_session.specs.Ends.{Finishes, failed_status, journal_left, runs_left, final_status, final_journal, final_runs};
+ghost use Rattle.prolog_session.specs.Ends.{Finishes, failed_status, journal_left, runs_left, operators_left, final_status, final_journal, final_runs, final_operators};
 
 use crate::prepare::{Prepared, status_of_prepared, text_of_prepared};
 use crate::{Runs, Sink, Written, write_all};
-use prolog_terms::{Entries, Want};
+use prolog_terms::{Entries, Ops, Want};
 use std::alloc::Global;
 
 /// The status, and the journal and the runs where the status tells them.
@@ -14,6 +14,8 @@ pub struct Outcome {
     pub status: u8,
     pub journal: Entries,
     pub runs: Runs,
+    /// The operators behind the text, or at the read-term that is refused; none where no text was loaded.
+    pub ops: Option<Ops>,
 }
 
 /// The status where memory is wanted.
@@ -26,24 +28,29 @@ fn outcome_of(alloc: Global, status: u8, prepared: Prepared) -> Outcome
     ensures status { result.status ≡ status }
     ensures journal { result.journal ≡ journal_left prepared }
     ensures runs { result.runs ≡ runs_left prepared }
+    ensures operators { result.ops ≡ operators_left prepared }
 {
     let mut journal = Entries::new(alloc);
     let mut runs = Runs::new(alloc);
+    let mut operators = None;
     match prepared {
         Prepared::BadWords | Prepared::SourceFailed | Prepared::TooLong => {}
-        Prepared::Refused(loaded, ran, _ops, _) => {
+        Prepared::Refused(loaded, ran, ops, _) => {
             journal = loaded;
             runs = ran;
+            operators = Some(ops);
         }
-        Prepared::Ran(loaded, ran, _ops) => {
+        Prepared::Ran(loaded, ran, ops) => {
             journal = loaded;
             runs = ran;
+            operators = Some(ops);
         }
     }
     Outcome {
         status,
         journal,
         runs,
+        ops: operators,
     }
 }
 
@@ -51,11 +58,13 @@ fn wanted(alloc: Global) -> Outcome
     ensures status { result.status ≡ 6 }
     ensures journal { result.journal ≡ [] }
     ensures runs { result.runs ≡ [] }
+    ensures operators { result.ops ≡ None }
 {
     Outcome {
         status: WANTED,
         journal: Entries::new(alloc),
         runs: Runs::new(alloc),
+        ops: None,
     }
 }
 
@@ -72,6 +81,7 @@ fn concluded(alloc: Global, prepared: Prepared, written: Written) -> Outcome
     ensures status { result.status ≡ final_status (Ok prepared) written }
     ensures journal { result.journal ≡ final_journal (Ok prepared) written }
     ensures runs { result.runs ≡ final_runs (Ok prepared) written }
+    ensures operators { result.ops ≡ final_operators (Ok prepared) written }
 {
     match written {
         Written::All => outcome_of(alloc, status_of_prepared(&prepared), prepared),
@@ -82,7 +92,7 @@ fn concluded(alloc: Global, prepared: Prepared, written: Written) -> Outcome
 
 /// Writes what was prepared.
 pub fn finish<K: Sink>(alloc: Global, sink: &mut K, prepared: Result<Prepared, Want>) -> Outcome
-    ensures finishes { Finishes prepared (K.written sink.old) (K.written sink.new) (Rose (K.faults sink.old) (K.faults sink.new)) result.status result.journal result.runs }
+    ensures finishes { Finishes prepared (K.written sink.old) (K.written sink.new) (Rose (K.faults sink.old) (K.faults sink.new)) result.status result.journal result.runs result.ops }
     ensures later { K.faults sink.old ≤ K.faults sink.new }
 {
     let prepared = match prepared {

@@ -10,22 +10,23 @@ use std::alloc::Global;
 use std::sync::Wait;
 use wam_machine::{Engine, Goal, Run, RunEnd};
 
-/// A run, and the base over which it was made.
+/// A run, the base over which it was made, and the operators of its engine.
 #[derive(Drop)]
 pub struct GoalRun {
     pub base: PlainBase,
+    pub ops: Ops,
     pub run: Run,
 }
 
-/// Runs a goal by the engine that the base serves, in as many steps at most as are given; the run has this line. The engine has
-/// a copy of the operators. The base comes back as it was.
+/// Runs a goal by the engine that the base serves, in as many steps at most as are given; the run has this line. The base
+/// and the operators come back as they were.
 pub fn run_goal<R: Wait, G: Gate>(
     rt: &R,
     alloc: Global,
     gate: &G,
     steps: u64,
     base: PlainBase,
-    ops: &Ops,
+    ops: Ops,
     line: u64,
     goal: &Goal,
 ) -> Result<GoalRun, Want>
@@ -33,9 +34,10 @@ pub fn run_goal<R: Wait, G: Gate>(
     requires goal { AreShown goal.now }
     requires out { base.out ≡ 0 }
     ensures base { IfOk result (λ ran. ran.base ≡ base) }
+    ensures ops { IfOk result (λ ran. ran.ops ≡ ops) }
     ensures run { IfOk result (λ ran. IsRunBy base.number line goal.now base.entries steps ran.run) }
 {
-    let mut engine = match Engine::new(alloc, base, ops.copy()?) {
+    let mut engine = match Engine::new(alloc, base, ops) {
         Ok(engine) => engine,
         Err(_) => return Err(Want),
     };
@@ -44,10 +46,8 @@ pub fn run_goal<R: Wait, G: Gate>(
         return Err(Want);
     }
     run.line = line;
-    Ok(GoalRun {
-        base: engine.into_base(),
-        run,
-    })
+    let (base, ops) = engine.into_parts();
+    Ok(GoalRun { base, ops, run })
 }
 
 fn wants(run: &Run) -> bool

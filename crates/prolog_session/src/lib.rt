@@ -22,10 +22,6 @@ mod sink;
 mod source;
 mod standard;
 mod steady;
-#[cfg(test)]
-mod tests;
-#[cfg(test)]
-mod text_tests;
 mod texts;
 mod words;
 mod writing;
@@ -33,11 +29,12 @@ mod writing;
 pub use finish::{Outcome, WANTED};
 pub use memory::{MemorySink, MemorySource};
 pub use prolog_terms::Want;
-pub use reading::{Text, read_all};
+pub use reading::{MAX_TEXT, Text, read_all};
 pub use runs::Runs;
 pub use session::top;
 pub use sink::{Put, Sink};
 pub use source::{Got, Source};
 pub use standard::{StdSink, StdSource};
 pub use steady::{SteadySink, SteadySource};
+pub use texts::output;
 pub use writing::{Written, write_all};

@@ -170,19 +170,20 @@ fn run_in_load<R: Wait, G: Gate>(
     gate: &G,
     steps: u64,
     base: PlainBase,
-    ops: &Ops,
+    ops: Ops,
     runs: &mut Runs,
     goal: &TextGoal,
-) -> Result<PlainBase, Want>
+) -> Result<(PlainBase, Ops), Want>
     requires steps { (1 ≤ steps) × (steps ≤ max_steps) }
     requires goal { AreShown goal.now.goal }
     requires base { IsOfLoad base }
-    ensures base { IfOk result (λ after. after ≡ base) }
+    ensures base { IfOk result (λ after. after.0 ≡ base) }
+    ensures ops { IfOk result (λ after. after.1 ≡ ops) }
     ensures run { OnOk result (Loads (sizes_of base) steps (loaded_in base runs.old) (a_goal goal.now ∷ []) (loaded_in base runs.new)) }
 {
     let ran = run_goal(rt, alloc, gate, steps, base, ops, goal.line, &goal.goal)?;
     runs.push(ran.run)?;
-    Ok(ran.base)
+    Ok((ran.base, ran.ops))
 }
 
 /// The same for a directive, in a load so far.
@@ -205,7 +206,7 @@ fn run_directive<R: Wait, G: Gate>(
         mut runs,
         kept,
     } = load;
-    let base = run_in_load(rt, alloc, gate, steps, base, &ops, &mut runs, goal)?;
+    let (base, ops) = run_in_load(rt, alloc, gate, steps, base, ops, &mut runs, goal)?;
     Ok(Loading {
         base,
         ops,
@@ -270,12 +271,12 @@ fn run_kept<R: Wait, G: Gate>(
 {
     let Loading {
         mut base,
-        ops,
+        mut ops,
         mut runs,
         kept,
     } = load;
     for goal in kept.items() {
-        base = run_in_load(rt, alloc, gate, steps, base, &ops, &mut runs, goal)?;
+        (base, ops) = run_in_load(rt, alloc, gate, steps, base, ops, &mut runs, goal)?;
     }
     Ok(Load {
         base,

@@ -63,7 +63,7 @@ pub fn run_command<R: Wait, G: Gate>(
         gate,
         steps,
         base.renumbered(FIRST),
-        &ops,
+        ops,
         0,
         &goal,
     )?;
@@ -71,7 +71,7 @@ pub fn run_command<R: Wait, G: Gate>(
     Ok(Ran {
         journal: ran.base.into_entries(),
         runs,
-        ops,
+        ops: ran.ops,
     })
 }
 

@@ -10,7 +10,7 @@ ghost use Rattle.prolog_session.specs.Words.{command_of};
 ghost use Rattle.prolog_session.specs.Runs.{EndsInBall, EndsSpent};
 ghost use Rattle.prolog_session.specs.Errors.{bad_words_text, source_text, too_long_text, refusal_text};
 ghost use Rattle.prolog_session.specs.Output.{load_text, output_of};
-ghost use Rattle.prolog_session.specs.Headline.{IsRun, HasRuns, IsLoaded, IsEmpty, IsStatus, expected, Ends, IsTooLong, AreRunsOf, HasRun, HasWritten, HasRefused, Gains, HasBegun};
+ghost use Rattle.prolog_session.specs.Headline.{IsRun, HasRuns, IsLoaded, IsEmpty, IsStatus, expected, Ends, IsTooLong, AreRunsOf, HasRun, Under, HasRefused, Gains, HasBegun};
 
 use crate::finish::{Outcome, finish};
 use crate::prepare::prepare;
@@ -56,9 +56,10 @@ pub fn top<R: Threads + Wait + Sync, S: Source, K: Sink, G: Gate + Sync>(
     // The journal is the load's, and the runs are the load's, with the goal's run over that journal behind them. Each goal of the
     // text and that of the words has the steps of the words at most.
     ensures journal { IsLoaded result.status → IfSome (S.left source.old) (λ text. result.journal ≡ journal_of sizes text) }
-    ensures loaded { HasRuns result.status → HasRun sizes (command_of (map string_bytes words.now)) (S.left source.old) (S.left source.new) result.journal result.runs }
-    ensures loaded_in_part { result.status ≡ 3 → HasRefused sizes (command_of (map string_bytes words.now)) (S.left source.old) (S.left source.new) result.journal result.runs
-        (Rose (K.faults sink.old) (K.faults sink.new)) (K.written sink.old) (K.written sink.new) }
+    ensures loaded { HasRuns result.status → Under result.ops (HasRun sizes (command_of (map string_bytes words.now)) (S.left source.old) (S.left source.new) result.journal result.runs) }
+    ensures loaded_in_part { result.status ≡ 3 → Under result.ops (HasRefused sizes (command_of (map string_bytes words.now)) (S.left source.old) (S.left source.new)
+        result.journal result.runs (Rose (K.faults sink.old) (K.faults sink.new)) (K.written sink.old) (K.written sink.new)) }
+    ensures operators { IsLoaded result.status → IfSome (S.left source.old) (λ text. result.ops ≡ Some (operators_of text)) }
     ensures legal { IsLoaded result.status → Legal sizes.words sizes.updates result.journal }
     ensures runs { HasRuns result.status → IfSome (S.left source.old) (λ text. IfSome (command_of (map string_bytes words.now)) (λ command.
         AreRunsOf sizes text command result.journal result.runs)) }
@@ -66,12 +67,11 @@ pub fn top<R: Threads + Wait + Sync, S: Source, K: Sink, G: Gate + Sync>(
         IsLoadOf sizes command.steps text result.journal result.runs)) }
     ensures empty_journal { IsEmpty result.status → result.journal ≡ [] }
     ensures empty_runs { IsEmpty result.status → result.runs ≡ [] }
+    ensures no_operators { IsEmpty result.status → result.ops ≡ None }
 
     // What the sink gained.
-    ensures output { IsRun result.status → HasWritten sizes (command_of (map string_bytes words.now)) (S.left source.old) (S.left source.new) result.journal result.runs
-        (λ output. Appends (K.written sink.old) (K.written sink.new) output) }
-    ensures output_cut { result.status ≡ 5 → HasWritten sizes (command_of (map string_bytes words.now)) (S.left source.old) (S.left source.new) result.journal result.runs
-        (λ output. AppendsPrefix (K.written sink.old) (K.written sink.new) output) }
+    ensures output { IsRun result.status → Under result.ops (λ ops. Appends (K.written sink.old) (K.written sink.new) (output_of ops result.runs)) }
+    ensures output_cut { result.status ≡ 5 → Under result.ops (λ ops. AppendsPrefix (K.written sink.old) (K.written sink.new) (output_of ops result.runs)) }
     ensures output_told { IsRun result.status → IfSome (S.left source.old) (λ text. Appends (K.written sink.old) (K.written sink.new) (output_of (operators_of text) result.runs)) }
     ensures bad_words_text { result.status ≡ 2 → Gains (Rose (K.faults sink.old) (K.faults sink.new)) (K.written sink.old) (K.written sink.new) bad_words_text }
     ensures source_text { result.status ≡ 4 → Gains (Rose (K.faults sink.old) (K.faults sink.new)) (K.written sink.old) (K.written sink.new) source_text }

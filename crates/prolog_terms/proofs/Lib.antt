@@ -1,3 +1,4 @@
 pub mod Equal
 pub mod Declares
 pub mod Converted
+pub mod Ordered

@@ -1,5 +1,6 @@
 pub mod Tree
 pub mod Flat
+pub mod Order
 pub mod Variables
 pub mod Substitutions
 pub mod Faults

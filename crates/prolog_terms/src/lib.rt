@@ -1,4 +1,4 @@
-//! Terms of Prolog, clauses and journal entries, errors and the operator table.
+//! Terms of Prolog and their standard order, clauses and journal entries, errors and the operator table.
 //!
 //! A term is a finite tree. It is kept flat, as its nodes in prefix order, and contracts see it as the tree
 //! (`specs/Tree.antt`). No call here recurses on a term, so no depth is too great.
@@ -12,6 +12,7 @@ mod name;
 mod names;
 mod node;
 mod ops;
+mod order;
 mod shown;
 mod term;
 #[cfg(test)]
@@ -25,7 +26,7 @@ pub use entry::{
     term_indicator,
 };
 pub use fault::{Fault, fault_term};
-pub use law::bodies_are_bodies;
+pub use law::{bodies_are_bodies, standard_order, standard_order_rows};
 pub use name::Name;
 pub use names::Names;
 pub use node::Node;

@@ -8,6 +8,7 @@ use crate::{
     fault_term, term_indicator,
 };
 use std::alloc::Global;
+use std::cmp::Ordering;
 
 fn indicator(alloc: Global) -> Result<Indicator, Want> {
     Ok(Indicator {
@@ -222,5 +223,101 @@ fn shown_variables_are_kept(rt: HostRuntime) -> Result<(), Want> {
     let shown = ShownVariables::from_vec(items);
     assert!(rt; shown == shown.clone()?);
     assert!(rt; shown.items().first().is_some_and(|x| x.var == 3));
+    Ok(())
+}
+
+fn leaf(alloc: Global, text: &str) -> Result<Node, Want> {
+    if let Ok(value) = text.parse::<i64>() {
+        return Ok(Node::Int(value));
+    }
+    Ok(match text {
+        "X" => Node::Var(0),
+        "Y" => Node::Var(1),
+        _ => Node::Atom(Name::of(alloc, text.as_bytes())?),
+    })
+}
+
+/// A leaf where no argument is there, and else a compound.
+fn small(alloc: Global, name: &str, first: &str, second: &str) -> Result<Term, Want> {
+    let mut nodes = Vec::new(alloc);
+    if first.is_empty() {
+        nodes.push(leaf(alloc, name)?)?;
+    } else {
+        let arity = if second.is_empty() { 1 } else { 2 };
+        nodes.push(Node::Functor(Name::of(alloc, name.as_bytes())?, arity))?;
+        nodes.push(leaf(alloc, first)?)?;
+        if arity == 2 {
+            nodes.push(leaf(alloc, second)?)?;
+        }
+    }
+    Term::of_nodes(nodes).map_err(|_| Want)
+}
+
+fn ascending(alloc: Global) -> Result<Vec<Term>, Want> {
+    let mut terms = Vec::new(alloc);
+    for (name, first, second) in [
+        ("X", "", ""),
+        ("Y", "", ""),
+        ("-2", "", ""),
+        ("-1", "", ""),
+        ("1", "", ""),
+        ("2", "", ""),
+        ("", "", ""),
+        ("B", "", ""),
+        ("[]", "", ""),
+        ("a", "", ""),
+        ("ab", "", ""),
+        ("b", "", ""),
+        ("f", "1", ""),
+        ("f", "2", ""),
+        ("f", "b", ""),
+        ("g", "a", ""),
+        ("z", "b", ""),
+        (".", "a", "[]"),
+        ("a", "b", "b"),
+        ("f", "a", "a"),
+        ("f", "a", "c"),
+        ("f", "b", "a"),
+    ] {
+        terms.push(small(alloc, name, first, second)?)?;
+    }
+    Ok(terms)
+}
+
+fn stands_at(terms: &[Term], at: usize, term: &Term) -> bool {
+    for (place, other) in terms.iter().enumerate() {
+        if term.compare(other) != at.cmp(&place) {
+            return false;
+        }
+    }
+    true
+}
+
+#[test]
+fn each_term_stands_at_its_place(rt: HostRuntime) -> Result<(), Want> {
+    let terms = ascending(rt.alloc())?;
+    assert_eq!(rt; terms.len(), 22);
+    for (at, term) in terms.iter().enumerate() {
+        assert!(rt; stands_at(terms.as_slice(), at, term), "the term at {at}");
+    }
+    Ok(())
+}
+
+fn deep(alloc: Global, innermost: &str) -> Result<Term, Want> {
+    let mut nodes = Vec::new(alloc);
+    for _ in 0..100_000 {
+        nodes.push(Node::Functor(Name::of(alloc, b"f")?, 1))?;
+    }
+    nodes.push(leaf(alloc, innermost)?)?;
+    Term::of_nodes(nodes).map_err(|_| Want)
+}
+
+#[test]
+fn deep_terms_are_compared(rt: HostRuntime) -> Result<(), Want> {
+    let lesser = deep(rt.alloc(), "a")?;
+    let greater = deep(rt.alloc(), "b")?;
+    assert!(rt; lesser.compare(&lesser) == Ordering::Equal);
+    assert!(rt; lesser.compare(&greater) == Ordering::Less);
+    assert!(rt; greater.compare(&lesser) == Ordering::Greater);
     Ok(())
 }

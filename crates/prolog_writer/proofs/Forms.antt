@@ -143,7 +143,7 @@ call_form {ops} law style f ts q some few wholes all = record {
 
     is : (e : Option Edge) (n : ℕ) (rest : List Token) → laid e n (form ops style Call f ts) (form_lexemes ops style Call f ts) rest ≡ a e n ∷ b e n ∷ inner e n rest
     is e n rest =
-        ap (λ xs. tokens_from (at e n) xs ++ (b e n ∷ laid paren (from e n) (separated ops style argument_place ts ++ mark (codes ")") ∷ []) (separated_lexemes ops style argument_place ts ++ mark_lexemes 41 ∷ []) rest)) one.is
+        ap (λ xs. tokens_from 1 (at e n) xs ++ (b e n ∷ laid paren (from e n) (separated ops style argument_place ts ++ mark (codes ")") ∷ []) (separated_lexemes ops style argument_place ts ++ mark_lexemes 41 ∷ []) rest)) one.is
         ∙ ap (λ (l : List Token). a e n ∷ b e n ∷ l) (p e n rest).is
 
     touch : (e : Option Edge) (n : ℕ) (l : List Token) → calls (a e n) (b e n ∷ l) ≡ true
@@ -197,7 +197,7 @@ prefixed_form {ops} law style f p q o is_op t r = record {
     inner e n rest = laid edge (from e n) (pieces ops style (Operand p.operand) t) (lexemes ops style (Operand p.operand) t) rest
 
     is : (e : Option Edge) (n : ℕ) (rest : List Token) → laid e n (form ops style (Prefixed p) f (more t none)) (form_lexemes ops style (Prefixed p) f (more t none)) rest ≡ a e n ∷ inner e n rest
-    is e n rest = ap (λ xs. tokens_from (at e n) xs ++ inner e n rest) one.is
+    is e n rest = ap (λ xs. tokens_from 1 (at e n) xs ++ inner e n rest) one.is
 
     start : (e : Option Edge) (n : ℕ) (rest : List Token) → Starts ops edge (from e n) (inner e n rest)
     start e n rest = r.starts (Operand p.operand) refl o edge (from e n) rest
@@ -264,7 +264,7 @@ infixed_form {ops} law style f i o is_op t u r s = record {
 
     is : (e : Option Edge) (n : ℕ) (rest : List Token) → laid e n (form ops style (Infixed i) f (more t (more u none))) (form_lexemes ops style (Infixed i) f (more t (more u none))) rest
         ≡ laid e n (pieces ops style left t) (lexemes ops style left t) (a e n rest ∷ inner e n rest)
-    is e n rest = (p e n rest).is ∙ ap (λ xs. laid e n (pieces ops style left t) (lexemes ops style left t) (tokens_from (at e n rest) xs ++ inner e n rest)) one.is
+    is e n rest = (p e n rest).is ∙ ap (λ xs. laid e n (pieces ops style left t) (lexemes ops style left t) (tokens_from 1 (at e n rest) xs ++ inner e n rest)) one.is
 
 -- ---- a postfix operator
 
@@ -303,7 +303,7 @@ postfixed_form {ops} law style f q o is_op t r = record {
 
     is : (e : Option Edge) (n : ℕ) (rest : List Token) → laid e n (form ops style (Postfixed q) f (more t none)) (form_lexemes ops style (Postfixed q) f (more t none)) rest
         ≡ laid e n (pieces ops style left t) (lexemes ops style left t) (a e n rest ∷ rest)
-    is e n rest = (p e n rest).is ∙ ap (λ xs. laid e n (pieces ops style left t) (lexemes ops style left t) (tokens_from (at e n rest) xs ++ rest)) one.is
+    is e n rest = (p e n rest).is ∙ ap (λ xs. laid e n (pieces ops style left t) (lexemes ops style left t) (tokens_from 1 (at e n rest) xs ++ rest)) one.is
 
 -- ---- braces
 

@@ -1,17 +1,17 @@
 -- Pieces one behind the other have their tokens.
-use Rattle.std.proofs.Common.{◌≡◌, ℕ, ◌+◌, ◌-◌, length, List, [], ◌∷◌, ◌++◌, Bool, true, false, Option, Some, refl, sym, ◌∙◌, ap, subst, append_assoc, arith}
+use Rattle.std.proofs.Common.{◌≡◌, ℕ, ◌+◌, ◌-◌, length, List, [], ◌∷◌, ◌++◌, Bool, true, false, Option, Some, refl, sym, ◌∙◌, ap, subst, append_assoc, arith, length-append}
 use Rattle.std.specs.Prelude.{codes, ◌&&◌, ◌||◌, if◌then◌else◌, option_map, slice_get}
 use Rattle.std.proofs.lemmas.Bool.{true≢false}
 use Rattle.prolog_lexer.specs.Classes.{class}
 use Rattle.prolog_lexer.specs.Escapes.{AreDigits}
-use Rattle.prolog_lexer.specs.Tokens.{Tokens, Ending, token_at, layout, stop, text_ends, at_end}
+use Rattle.prolog_lexer.specs.Pieces.{is_break}
+use Rattle.prolog_lexer.specs.Tokens.{Tokens, Ending, layout, stop}
 use Rattle.prolog_lexer.specs.declared.token.Token.{Token}
-use Rattle.prolog_lexer.specs.declared.token.TokenKind.TheVariants.{Stop}
 use Rattle.prolog_writer.specs.declared.kind.Kind.{Kind}
 use Rattle.prolog_writer.specs.declared.kind.Edge.{Edge}
 use Rattle.prolog_writer.specs.Spelling as writer
 use Rattle.prolog_writer.specs.Spaces.{Piece, piece, is_wordy, is_named, is_paren, is_minus, parts, edge_of, needs_space, gap, spaced}
-use Rattle.prolog_writer.specs.Lexemes.{Lexeme, Spells, word, symbols as symbolic, solo as alone, quoted, named, digits, negative, mark, pair, AllSpell, nothing, further, tokens_of}
+use Rattle.prolog_writer.specs.Lexemes.{Lexeme, Spells, word, symbols as symbolic, solo as alone, quoted, named, digits, negative, mark, pair, AllSpell, nothing, further, tokens_of, end_at}
 use Rattle.prolog_writer.proofs.Bytes.{blank-wordy, blank_is_no_symbol, symbol_both, no_symbol_both}
 use Rattle.prolog_writer.proofs.Lexing.{last_of, Apart, one_piece}
 
@@ -74,41 +74,52 @@ edge_is p g =
     ap (λ (t : List ℕ). edge_of (piece p.kind t)) g.is ∙ edge_last p.kind g.first g.others
     ∙ ap (λ (t : List ℕ). Some (record { kind = p.kind; byte = last_of t })) (sym g.is)
 
-step : (k : Kind) (z : ℕ) (q : Piece) (c : ℕ) (cs : List ℕ) → q.text ≡ c ∷ cs → (rest : List ℕ) (b : Bool) → needs_space (Some (record { kind = k; byte = z })) q.kind q.text ≡ b
-    → Apart z (((gap (Some (record { kind = k; byte = z })) q ++ q.text) ++ rest) ++ codes " .")
-step k z q c cs is rest true e = rw e (behind_blank z ((q.text ++ rest) ++ codes " ."))
-step k z q c cs is rest false e =
+step : (k : Kind) (z : ℕ) (q : Piece) (c : ℕ) (cs : List ℕ) → q.text ≡ c ∷ cs → (rest later : List ℕ) (b : Bool) → needs_space (Some (record { kind = k; byte = z })) q.kind q.text ≡ b
+    → Apart z (((gap (Some (record { kind = k; byte = z })) q ++ q.text) ++ rest) ++ later)
+step k z q c cs is rest later true e = rw e (behind_blank z ((q.text ++ rest) ++ later))
+step k z q c cs is rest later false e =
     let f : parts (record { kind = k; byte = z }) q.kind c ≡ false = ap (λ (t : List ℕ). needs_space (Some (record { kind = k; byte = z })) q.kind t) (sym is) ∙ e in
-    rw e (subst (λ (t : List ℕ). Apart z ((t ++ rest) ++ codes " .")) (sym is) (not_parted k q.kind z c ((cs ++ rest) ++ codes " .") f))
+    rw e (subst (λ (t : List ℕ). Apart z ((t ++ rest) ++ later)) (sym is) (not_parted k q.kind z c ((cs ++ rest) ++ later) f))
 
-apart_some : (k : Kind) (z : ℕ) (ps : List Piece) (xss : List (List Lexeme)) → AllSpell ps xss → Apart z (spaced (Some (record { kind = k; byte = z })) ps ++ codes " .")
-apart_some k z ps xss nothing = behind_blank z (46 ∷ [])
-apart_some k z ps xss (further {ps = qs} {xss = yss} q xs h hs) =
+apart_some : (k : Kind) (z : ℕ) (later : List ℕ) (ps : List Piece) (xss : List (List Lexeme)) → AllSpell ps xss → Apart z (spaced (Some (record { kind = k; byte = z })) ps ++ (codes " ." ++ later))
+apart_some k z later ps xss nothing = behind_blank z (46 ∷ later)
+apart_some k z later ps xss (further {ps = qs} {xss = yss} q xs h hs) =
     let g = begins q.text xs h in
-    step k z q g.first g.others g.is (spaced (edge_of q) qs) (needs_space (Some (record { kind = k; byte = z })) q.kind q.text) refl
+    step k z q g.first g.others g.is (spaced (edge_of q) qs) (codes " ." ++ later) (needs_space (Some (record { kind = k; byte = z })) q.kind q.text) refl
 
 -- ---- all of them
 
 abbrev blank : Bool → List ℕ
 blank b = if b then codes " " else []
 
-one_gap : {at : ℕ} {ts : List Token} {e : Ending} (b : Bool) (body : List ℕ) → Tokens (at + length (blank b)) 1 body ts e → Tokens at 1 (blank b ++ body) ts e
+one_gap : {at line : ℕ} {ts : List Token} {e : Ending} (b : Bool) (body : List ℕ) → Tokens (at + length (blank b)) line body ts e → Tokens at line (blank b ++ body) ts e
 unfolding class
-one_gap true body t = layout 32 refl t
-one_gap {at} {ts} {e} false body t = let n : at + 0 ≡ at = omega arith in subst (λ k. Tokens k 1 body ts e) n t
+one_gap {at} {line} {ts} {e} true body t = let l : line ≡ line + 0 = omega arith in layout 32 refl (subst (λ k. Tokens (at + 1) k body ts e) l t)
+one_gap {at} {line} {ts} {e} false body t = let n : at + 0 ≡ at = omega arith in subst (λ k. Tokens k line body ts e) n t
 
-the_end : (at : ℕ) → Tokens at 1 (codes " .") (token_at (at + 1) 1 1 Stop ∷ []) at_end
+the_end : {line : ℕ} {later : List ℕ} {ts : List Token} {e : Ending} (at : ℕ) → is_break later ≡ true → Tokens (at + 2) line later ts e → Tokens at line (codes " ." ++ later) (end_at (at + 1) line ∷ ts) e
 unfolding class
-the_end at = layout 32 refl (stop refl text_ends)
+the_end {line} {later} {ts} {e} at b h =
+    let n : at + 2 ≡ at + 1 + 1 = omega arith in
+    let l : line ≡ line + 0 = omega arith in
+    layout 32 refl (subst (λ k. Tokens (at + 1) k (46 ∷ later) (end_at (at + 1) line ∷ ts) e) l (stop b (subst (λ k. Tokens k line later ts e) n h)))
 
-pub joined : (ps : List Piece) (xss : List (List Lexeme)) → AllSpell ps xss → (before : Option Edge) (at : ℕ) → Tokens at 1 (spaced before ps ++ codes " .") (tokens_of before at ps xss) at_end
-joined ps xss nothing before at = the_end at
-joined ps xss (further {ps = qs} {xss = yss} p xs h hs) before at =
-    let body : List ℕ = spaced (edge_of p) qs ++ codes " ." in
+-- behind the pieces, at a place, an End behind a space
+pub joined : {line : ℕ} {later : List ℕ} {ts : List Token} {e : Ending} (ps : List Piece) (xss : List (List Lexeme)) → AllSpell ps xss → (before : Option Edge) (at place : ℕ)
+    → place ≡ at + length (spaced before ps) → is_break later ≡ true → Tokens (place + 2) line later ts e
+    → Tokens at line (spaced before ps ++ (codes " ." ++ later)) (tokens_of line before at ps xss (end_at (place + 1) line ∷ ts)) e
+joined {line} {later} {ts} {e} ps xss nothing before at place is b t =
+    let n : place ≡ at = omega (arith, is) in
+    subst (λ k. Tokens k line (codes " ." ++ later) (end_at (place + 1) line ∷ ts) e) n (the_end place b t)
+joined {line} {later} {ts} {e} ps xss (further {ps = qs} {xss = yss} p xs h hs) before at place n b t =
+    let body : List ℕ = spaced (edge_of p) qs ++ (codes " ." ++ later) in
+    let end : List Token = end_at (place + 1) line ∷ ts in
     let apart : Apart (last_of p.text) body =
-    subst (λ (x : Option Edge). Apart (last_of p.text) (spaced x qs ++ codes " .")) (sym (edge_is p (begins p.text xs h))) (apart_some p.kind (last_of p.text) qs yss hs) in
+    subst (λ (x : Option Edge). Apart (last_of p.text) (spaced x qs ++ (codes " ." ++ later))) (sym (edge_is p (begins p.text xs h))) (apart_some p.kind (last_of p.text) later qs yss hs) in
     let start : ℕ = at + length (gap before p) in
-    let is : gap before p ++ (p.text ++ body) ≡ spaced before (p ∷ qs) ++ codes " ." =
-    sym (append_assoc (gap before p ++ p.text) (spaced (edge_of p) qs) (codes " .") ∙ append_assoc (gap before p) p.text body) in
-    subst (λ (l : List ℕ). Tokens at 1 l (tokens_of before at (p ∷ qs) (xs ∷ yss)) at_end) is
-    (one_gap (needs_space before p.kind p.text) (p.text ++ body) (one_piece p.text xs body h apart (joined qs yss hs (edge_of p) (start + length p.text))))
+    let m : place ≡ (start + length p.text) + length (spaced (edge_of p) qs) =
+    omega (arith, n, length-append (gap before p ++ p.text) (spaced (edge_of p) qs), length-append (gap before p) p.text) in
+    let is : gap before p ++ (p.text ++ body) ≡ spaced before (p ∷ qs) ++ (codes " ." ++ later) =
+    sym (append_assoc (gap before p ++ p.text) (spaced (edge_of p) qs) (codes " ." ++ later) ∙ append_assoc (gap before p) p.text body) in
+    subst (λ (l : List ℕ). Tokens at line l (tokens_of line before at (p ∷ qs) (xs ∷ yss) end) e) is
+    (one_gap (needs_space before p.kind p.text) (p.text ++ body) (one_piece p.text xs body h apart (joined qs yss hs (edge_of p) (start + length p.text) place m b t)))

@@ -43,8 +43,8 @@ no_quote (b ∷ bs) h = or_right (writer.is_alphanumeric b) (b == 39) h
 
 -- ---- one piece
 
-pub one_word : {at : ℕ} {ts : List Token} {e : Ending} (b : ℕ) (bs rest : List ℕ) → class b ≡ class 97 → AreAll is_word bs → EndsRun is_wordy rest
-    → Tokens (at + length (b ∷ bs)) 1 rest ts e → Tokens at 1 ((b ∷ bs) ++ rest) (tokens_from at (lexeme (Name (b ∷ bs)) (length (b ∷ bs)) ∷ []) ++ ts) e
+pub one_word : {at line : ℕ} {ts : List Token} {e : Ending} (b : ℕ) (bs rest : List ℕ) → class b ≡ class 97 → AreAll is_word bs → EndsRun is_wordy rest
+    → Tokens (at + length (b ∷ bs)) line rest ts e → Tokens at line ((b ∷ bs) ++ rest) (tokens_from line at (lexeme (Name (b ∷ bs)) (length (b ∷ bs)) ∷ []) ++ ts) e
 unfolding class
 one_word b bs rest c w h ts = name b bs rest c w (word_ends rest h) ts
 
@@ -87,18 +87,18 @@ capital-word : (b : ℕ) → class b ≡ class 65 → is_word b ≡ true
 unfolding class
 capital-word b e = rw e refl
 
-pub one_variable : {at : ℕ} {ts : List Token} {e : Ending} (b : ℕ) (bs rest : List ℕ) → class b ≡ class 65 → AreAll is_word bs → EndsRun is_wordy rest
-    → Tokens (at + length (b ∷ bs)) 1 rest ts e → Tokens at 1 ((b ∷ bs) ++ rest) (tokens_from at (lexeme (Variable (b ∷ bs)) (length (b ∷ bs)) ∷ []) ++ ts) e
+pub one_variable : {at line : ℕ} {ts : List Token} {e : Ending} (b : ℕ) (bs rest : List ℕ) → class b ≡ class 65 → AreAll is_word bs → EndsRun is_wordy rest
+    → Tokens (at + length (b ∷ bs)) line rest ts e → Tokens at line ((b ∷ bs) ++ rest) (tokens_from line at (lexeme (Variable (b ∷ bs)) (length (b ∷ bs)) ∷ []) ++ ts) e
 unfolding class
 one_variable b bs rest c w h ts = variable b bs rest c w (word_ends rest h) ts
 
-pub one_solo : {at : ℕ} {ts : List Token} {e : Ending} (b : ℕ) (rest : List ℕ) → class b ≡ class 33
-    → Tokens (at + 1) 1 rest ts e → Tokens at 1 (b ∷ rest) (tokens_from at (lexeme (Name (b ∷ [])) 1 ∷ []) ++ ts) e
+pub one_solo : {at line : ℕ} {ts : List Token} {e : Ending} (b : ℕ) (rest : List ℕ) → class b ≡ class 33
+    → Tokens (at + 1) line rest ts e → Tokens at line (b ∷ rest) (tokens_from line at (lexeme (Name (b ∷ [])) 1 ∷ []) ++ ts) e
 unfolding class
 one_solo b rest c ts = solo b c ts
 
-pub one_mark : {at : ℕ} {ts : List Token} {e : Ending} (b : ℕ) (rest : List ℕ) → class b ≡ class 40
-    → Tokens (at + 1) 1 rest ts e → Tokens at 1 (b ∷ rest) (tokens_from at (lexeme (Punct b) 1 ∷ []) ++ ts) e
+pub one_mark : {at line : ℕ} {ts : List Token} {e : Ending} (b : ℕ) (rest : List ℕ) → class b ≡ class 40
+    → Tokens (at + 1) line rest ts e → Tokens at line (b ∷ rest) (tokens_from line at (lexeme (Punct b) 1 ∷ []) ++ ts) e
 unfolding class
 one_mark b rest c ts = punctuation b c ts
 
@@ -123,19 +123,19 @@ wordy-digit b e = go (is_digit_of 10 b) refl
     go true h = absurd (true≢false (sym (digit-wordy b h) ∙ e))
     go false h = h
 
-pub one_number : {at : ℕ} {ts : List Token} {e : Ending} (ds rest : List ℕ) → AreDigits 10 ds → value 10 ds ≤ 0x8000_0000_0000_0000 → EndsRun is_wordy rest
-    → Tokens (at + length ds) 1 rest ts e → Tokens at 1 (ds ++ rest) (tokens_from at (lexeme (Integer (value 10 ds)) (length ds) ∷ []) ++ ts) e
+pub one_number : {at line : ℕ} {ts : List Token} {e : Ending} (ds rest : List ℕ) → AreDigits 10 ds → value 10 ds ≤ 0x8000_0000_0000_0000 → EndsRun is_wordy rest
+    → Tokens (at + length ds) line rest ts e → Tokens at line (ds ++ rest) (tokens_from line at (lexeme (Integer (value 10 ds)) (length ds) ∷ []) ++ ts) e
 one_number ds rest c few h ts = decimal ds rest c (narrower is_wordy (is_digit_of 10) rest wordy-digit h) (no_longer ds rest h) few ts
 
-pub one_run : {at : ℕ} {ts : List Token} {e : Ending} (b : ℕ) (bs rest : List ℕ) → AreAll is_symbol (b ∷ bs) → begins_comment (b ∷ bs) ≡ false → (b ∷ bs ≡ codes "." → ⊥) → EndsRun is_symbol rest
-    → Tokens (at + length (b ∷ bs)) 1 rest ts e → Tokens at 1 ((b ∷ bs) ++ rest) (tokens_from at (lexeme (Name (b ∷ bs)) (length (b ∷ bs)) ∷ []) ++ ts) e
+pub one_run : {at line : ℕ} {ts : List Token} {e : Ending} (b : ℕ) (bs rest : List ℕ) → AreAll is_symbol (b ∷ bs) → begins_comment (b ∷ bs) ≡ false → (b ∷ bs ≡ codes "." → ⊥) → EndsRun is_symbol rest
+    → Tokens (at + length (b ∷ bs)) line rest ts e → Tokens at line ((b ∷ bs) ++ rest) (tokens_from line at (lexeme (Name (b ∷ bs)) (length (b ∷ bs)) ∷ []) ++ ts) e
 one_run b bs rest c plain point h ts = symbols b bs rest c h plain (no_end b bs rest point) ts
 
-pub one_quoted : {at : ℕ} {ts : List Token} {e : Ending} (spelling meaning rest : List ℕ) → Inside 39 spelling meaning → count_by (λ b. b == 10) spelling ≡ 0 → EndsRun is_wordy rest
-    → Tokens (at + (1 + length spelling + 1)) 1 rest ts e
-    → Tokens at 1 (39 ∷ (spelling ++ 39 ∷ rest)) (tokens_from at (lexeme (Quoted meaning) (1 + length spelling + 1) ∷ []) ++ ts) e
-one_quoted {at} {ts} {e} spelling meaning rest i lines h us =
-    let l : 1 ≡ line_past spelling 1 = omega (arith, lines) in
+pub one_quoted : {at line : ℕ} {ts : List Token} {e : Ending} (spelling meaning rest : List ℕ) → Inside 39 spelling meaning → count_by (λ b. b == 10) spelling ≡ 0 → EndsRun is_wordy rest
+    → Tokens (at + (1 + length spelling + 1)) line rest ts e
+    → Tokens at line (39 ∷ (spelling ++ 39 ∷ rest)) (tokens_from line at (lexeme (Quoted meaning) (1 + length spelling + 1) ∷ []) ++ ts) e
+one_quoted {at} {line} {ts} {e} spelling meaning rest i lines h us =
+    let l : line ≡ line_past spelling line = omega (arith, lines) in
     in_quotes spelling rest names i (no_quote rest h) (subst (λ n. Tokens (at + (1 + length spelling + 1)) n rest ts e) l us)
 
 digits_first : (ds rest : List ℕ) → AreDigits 10 ds → EndsRun is_symbol (ds ++ rest)
@@ -158,22 +158,22 @@ no_point : 45 ∷ [] ≡ codes "." → ⊥
 no_point e = let h : 45 ≡ 46 = ap last_of e in omega (arith, h)
 
 -- each piece, whatever stands behind it that doesn't run together with its last byte
-pub one_piece : {at : ℕ} {ts : List Token} {e : Ending} (text : List ℕ) (xs : List Lexeme) (rest : List ℕ) → Spells text xs → Apart (last_of text) rest
-    → Tokens (at + length text) 1 rest ts e → Tokens at 1 (text ++ rest) (tokens_from at xs ++ ts) e
+pub one_piece : {at line : ℕ} {ts : List Token} {e : Ending} (text : List ℕ) (xs : List Lexeme) (rest : List ℕ) → Spells text xs → Apart (last_of text) rest
+    → Tokens (at + length text) line rest ts e → Tokens at line (text ++ rest) (tokens_from line at xs ++ ts) e
 one_piece text xs rest (word b bs c w) h ts = one_word b bs rest c w (h.words (word-wordy (last_of (b ∷ bs)) (last_kind is_word b bs (small-word b c, w)))) ts
 one_piece text xs rest (symbolic b bs c plain point) h ts = one_run b bs rest c plain point (h.runs (last_kind is_symbol b bs c)) ts
 one_piece text xs rest (alone b c) h ts = one_solo b rest c ts
-one_piece {at} {ts} {e} text xs rest (quoted spelling meaning i lines) h us =
+one_piece {at} {line} {ts} {e} text xs rest (quoted spelling meaning i lines) h us =
     let n : at + length (39 ∷ (spelling ++ 39 ∷ [])) ≡ at + (1 + length spelling + 1) = omega (arith, length-append spelling (39 ∷ [])) in
-    subst (λ (l : List ℕ). Tokens at 1 (39 ∷ l) (tokens_from at (lexeme (Quoted meaning) (1 + length spelling + 1) ∷ []) ++ ts) e) (sym (append_assoc spelling (39 ∷ []) rest))
-    (one_quoted spelling meaning rest i lines (h.words (ap is_wordy (last_quote spelling))) (subst (λ k. Tokens k 1 rest ts e) n us))
+    subst (λ (l : List ℕ). Tokens at line (39 ∷ l) (tokens_from line at (lexeme (Quoted meaning) (1 + length spelling + 1) ∷ []) ++ ts) e) (sym (append_assoc spelling (39 ∷ []) rest))
+    (one_quoted spelling meaning rest i lines (h.words (ap is_wordy (last_quote spelling))) (subst (λ k. Tokens k line rest ts e) n us))
 one_piece text xs rest (named b bs c w) h ts = one_variable b bs rest c w (h.words (word-wordy (last_of (b ∷ bs)) (last_kind is_word b bs (capital-word b c, w)))) ts
 one_piece text xs rest (digits ds c few) h ts = one_number ds rest c few (h.words (digits_last ds c)) ts
-one_piece {at} {ts} {e} text xs rest (negative ds c few) h us =
+one_piece {at} {line} {ts} {e} text xs rest (negative ds c few) h us =
     let n : at + length (45 ∷ ds) ≡ at + 1 + length ds = omega arith in
     one_run 45 [] (ds ++ rest) (minus_symbol, tt) refl no_point (digits_first ds rest c)
-    (one_number ds rest c few (h.words (ap is_wordy (last_negative ds c) ∙ digits_last ds c)) (subst (λ k. Tokens k 1 rest ts e) n us))
+    (one_number ds rest c few (h.words (ap is_wordy (last_negative ds c) ∙ digits_last ds c)) (subst (λ k. Tokens k line rest ts e) n us))
 one_piece text xs rest (mark b c) h ts = one_mark b rest c ts
-one_piece {at} {ts} {e} text xs rest (pair a b c d) h us =
+one_piece {at} {line} {ts} {e} text xs rest (pair a b c d) h us =
     let n : at + 2 ≡ at + 1 + 1 = omega arith in
-    one_mark a (b ∷ rest) c (one_mark b rest d (subst (λ k. Tokens k 1 rest ts e) n us))
+    one_mark a (b ∷ rest) c (one_mark b rest d (subst (λ k. Tokens k line rest ts e) n us))

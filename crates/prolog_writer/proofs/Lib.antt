@@ -7,6 +7,7 @@ pub mod Joining
 pub mod Names
 pub mod Spelled
 pub mod Tables
+pub mod Lined
 pub mod Laid
 pub mod Grown
 pub mod Behind

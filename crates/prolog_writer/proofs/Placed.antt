@@ -66,24 +66,24 @@ cases_of P name left braces other = by (same_text name (codes "[]")) (same_text 
     by false false e h = other (ap (λ x. x || same_text name (codes "{}")) e ∙ h)
 
 pub token_primary : {ops : Table} {m : ℕ} {vs : Numbering} (b : Bool) (name : List ℕ) (at : ℕ) (rest : List Token) → ends_name rest ≡ true
-    → (prefix_op ops name ≡ None) ⊎ (takes_operand ops rest ≡ false) → Primary ops m (tokens_from at (lexemes_of_name b name) ++ rest) vs 0 (atom name) rest vs
+    → (prefix_op ops name ≡ None) ⊎ (takes_operand ops rest ≡ false) → Primary ops m (tokens_from 1 at (lexemes_of_name b name) ++ rest) vs 0 (atom name) rest vs
 token_primary true name at rest e h =
     let a : Token = token_at at 1 _ (Quoted name) in plain a name refl (no_call a rest e) (no_sign a rest e) h
 token_primary {ops} {m} {vs} false name at rest e h =
-    cases_of (λ n. Primary ops m (tokens_from at (lexemes_of_name false n) ++ rest) vs 0 (atom n) rest vs) name
+    cases_of (λ n. Primary ops m (tokens_from 1 at (lexemes_of_name false n) ++ rest) vs 0 (atom n) rest vs) name
     (empty_list (token_at at 1 1 (Punct 91)) (token_at (at + 1) 1 1 (Punct 93)) refl refl)
     (empty_braces (token_at at 1 1 (Punct 123)) (token_at (at + 1) 1 1 (Punct 125)) refl refl)
     (λ k. let a : Token = token_at at 1 (length name) (Name name) in rw k (plain a name refl (no_call a rest e) (no_sign a rest e) h))
 
-pub token_begins : (b : Bool) (name : List ℕ) (at : ℕ) (rest : List Token) → begins_term (tokens_from at (lexemes_of_name b name) ++ rest) ≡ true
+pub token_begins : (b : Bool) (name : List ℕ) (at : ℕ) (rest : List Token) → begins_term (tokens_from 1 at (lexemes_of_name b name) ++ rest) ≡ true
 token_begins true name at rest = refl
-token_begins false name at rest = cases_of (λ n. begins_term (tokens_from at (lexemes_of_name false n) ++ rest) ≡ true) name refl refl (λ k. rw k refl)
+token_begins false name at rest = cases_of (λ n. begins_term (tokens_from 1 at (lexemes_of_name false n) ++ rest) ≡ true) name refl refl (λ k. rw k refl)
 
 pub token_starts : {ops : Table} {e : Option Edge} {n : ℕ} (b : Bool) (name : List ℕ) (at : ℕ) (rest : List Token) → follows (definitions ops name) ≡ false
-    → Starts ops e n (tokens_from at (lexemes_of_name b name) ++ rest)
+    → Starts ops e n (tokens_from 1 at (lexemes_of_name b name) ++ rest)
 token_starts true name at rest k = plain_starts (token_at at 1 _ (Quoted name) ∷ rest) refl refl
 token_starts {ops} {e} {n} false name at rest k =
-    cases_of (λ x. Starts ops e n (tokens_from at (lexemes_of_name false x) ++ rest)) name
+    cases_of (λ x. Starts ops e n (tokens_from 1 at (lexemes_of_name false x) ++ rest)) name
     (plain_starts (token_at at 1 1 (Punct 91) ∷ token_at (at + 1) 1 1 (Punct 93) ∷ rest) refl refl)
     (plain_starts (token_at at 1 1 (Punct 123) ∷ token_at (at + 1) 1 1 (Punct 125) ∷ rest) refl refl)
     (λ plain_name.

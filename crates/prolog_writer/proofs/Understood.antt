@@ -7,10 +7,9 @@ use Rattle.prolog_terms.specs.Tree.{Tree, Trees, variable, integer, atom, compou
 use Rattle.prolog_terms.specs.Operators.{Table}
 use Rattle.prolog_lexer.specs.declared.token.Token.{Token}
 use Rattle.prolog_lexer.specs.declared.token.TokenKind.TheVariants.{Name, Variable, Integer, Punct}
-use Rattle.prolog_lexer.specs.Tokens.{token_at, stream_of, at_end}
+use Rattle.prolog_lexer.specs.Tokens.{token_at}
 use Rattle.prolog_reader.specs.Numberings.{Numbering}
 use Rattle.prolog_reader.specs.Grammar.{touches, negates}
-use Rattle.prolog_reader.specs.Texts.{upto}
 use Rattle.prolog_reader.specs.Reads.{Reads, named, number, negative}
 use Rattle.prolog_writer.specs.declared.kind.Edge.{Edge}
 use Rattle.prolog_writer.specs.declared.style.Style.{Style}
@@ -30,7 +29,8 @@ use Rattle.prolog_writer.proofs.Behind.{and_no, Ends, comma}
 use Rattle.prolog_writer.proofs.Behind as behind
 use Rattle.prolog_writer.proofs.Tokened.{same}
 use Rattle.prolog_writer.proofs.Grown.{Grows, alone}
-use Rattle.prolog_writer.proofs.Laid.{laid, laid_tokens}
+use Rattle.prolog_writer.proofs.Laid.{laid, laid_lined}
+use Rattle.prolog_writer.proofs.Lined.{reads_lined}
 use Rattle.prolog_writer.proofs.Starts.{plain_starts, digits_starts, negative_starts, same_number}
 use Rattle.prolog_writer.proofs.Fitting.{Formed, cell, braced, prefixed, infixed, postfixed, call, formed, fits, cell_is}
 use Rattle.prolog_writer.proofs.Facts.{Tail, over, TermReads, TailReads, AllRead, one_term, behind_bar}
@@ -208,11 +208,11 @@ mutual
   all_known law style none q a h = tt
   all_known law style (more t ts) q a h = (term_known law style t q a.0 h.0, tail_known law style t q a.0 h.0, all_known law style ts q a.1 h.1)
 
-pub term_read : (ops : Table) (style : Style) (max : ℕ) (t : Tree) (vs : Numbering) → IsLawful ops → has_quotes style ≡ true → HasArities t → HasWholes t
-    → (q : ℕ) × Reads ops 1200 (upto (stream_of (tokens_of None 0 (pieces ops style (Within max) t) (lexemes ops style (Within max) t)) at_end)) vs q (as_told t vs) [] (told t vs)
-term_read ops style max t vs law q a h =
+pub term_read : (ops : Table) (style : Style) (max : ℕ) (t : Tree) (vs : Numbering) → IsLawful ops → has_quotes style ≡ true → HasArities t → HasWholes t → (at line : ℕ)
+    → (q : ℕ) × Reads ops 1200 (tokens_of line None at (pieces ops style (Within max) t) (lexemes ops style (Within max) t) []) vs q (as_told t vs) [] (told t vs)
+term_read ops style max t vs law q a h at line =
     let r = term_known law style t q a h in
     let near : r.reach (Within max) ≤ 1201 + r.reach (Within max) = omega arith in
     let high : 1200 < 1201 + r.reach (Within max) = omega arith in
-    let k = one_term r max 1200 (1201 + r.reach (Within max)) None 0 [] vs (r.low (Within max)) high near (behind.at_end ops (1201 + r.reach (Within max))) in
-    (r.level (Within max), subst (λ (l : List Token). Reads ops 1200 l vs (r.level (Within max)) (as_told t vs) [] (told t vs)) (sym (laid_tokens None 0 (term_spelled ops style (Within max) t q h))) k)
+    let k = reads_lined line (one_term r max 1200 (1201 + r.reach (Within max)) None at [] vs (r.low (Within max)) high near (behind.at_end ops (1201 + r.reach (Within max)))) in
+    (r.level (Within max), subst (λ (l : List Token). Reads ops 1200 l vs (r.level (Within max)) (as_told t vs) [] (told t vs)) (laid_lined line None at (term_spelled ops style (Within max) t q h)) k)

@@ -1,13 +1,15 @@
--- A term that is written Quoted or Canonical and followed by ` .` is read again as the same term, under the same table.
-use Rattle.std.specs.Prelude.{◌≡◌, ℕ, ◌<◌, ◌≤◌, ◌++◌, List, [], true, Some, None, codes}
+-- A term that is written Quoted or Canonical and followed by ` .` is read again as the same term, under the same table, wherever
+-- it stands in a text.
+use Rattle.std.specs.Prelude.{◌≡◌, ℕ, ◌<◌, ◌≤◌, ◌+◌, ◌++◌, List, [], length, true, Some, None, codes}
 use Rattle.prolog_terms.specs.Tree.{Tree, HasArities, HasWholes}
 use Rattle.prolog_terms.specs.Substitutions.{numbered, variable_count}
 use Rattle.prolog_terms.specs.declared.ops.Prefix.{Prefix}
 use Rattle.prolog_terms.specs.declared.ops.Infix.{Infix}
 use Rattle.prolog_terms.specs.declared.ops.Postfix.{Postfix}
 use Rattle.prolog_terms.specs.Operators.{Table, definitions, prefix_op, infix_op, postfix_op, no_operator, IsTable}
-use Rattle.prolog_lexer.specs.Streams.{tokens}
-use Rattle.prolog_reader.specs.Texts.{a_term, read_of}
+use Rattle.prolog_lexer.specs.Pieces.{is_break}
+use Rattle.prolog_lexer.specs.Streams.{Place, ahead, rest_of}
+use Rattle.prolog_reader.specs.Texts.{a_term, read_of, tail}
 use Rattle.prolog_writer.specs.declared.style.Style.{Style}
 use Rattle.prolog_writer.specs.Spelling.{has_quotes}
 use Rattle.prolog_writer.specs.Pieces.{written}
@@ -27,10 +29,20 @@ pub record IsLawful (ops : Table) : Type 0 where
 
 -- ---- the law
 
--- the bytes, with ` .` behind them, are read under a table as the term with its variables numbered by first occurrence; as their
--- names begin with _, none is shown
+-- the place so many bytes on, in the same line
+abbrev pub moved : Place → ℕ → Place
+moved p n = record { text = p.text; at = p.at + n; line = p.line }
+
+-- At a place of a text the term is read, in the place's line, with its variables numbered by first occurrence; as their names
+-- begin with _, none is shown. So many bytes are taken: what is ahead then is what is ahead behind them, whatever it is.
+pub record IsReadAt (ops : Table) (t : Tree) (bytes : ℕ) (p : Place) : Type 0 where
+  pub read : read_of ops (ahead p) ≡ a_term p.line (record { term = numbered t; shown = []; vars = variable_count t })
+  pub rest : (tail (ahead p)).rest ≡ ahead (moved p bytes)
+
+-- The bytes, with ` .` behind them, are read under a table as the term: at each place of a text, in any line, where they stand
+-- with ` .` behind them, and behind that the end of the text, layout or %.
 abbrev pub IsReadAs : Table → List ℕ → Tree → Type 0
-IsReadAs ops bytes t = read_of ops (tokens (bytes ++ codes " .")) ≡ a_term 1 (record { term = numbered t; shown = []; vars = variable_count t })
+IsReadAs ops bytes t = (p : Place) (later : List ℕ) → rest_of p ≡ bytes ++ (codes " ." ++ later) → is_break later ≡ true → IsReadAt ops t (length bytes + 2) p
 
 -- what is written is read as the term
 abbrev pub ReadsAgain : Table → Style → ℕ → Tree → Type 0

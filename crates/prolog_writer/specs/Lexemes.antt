@@ -6,6 +6,7 @@ use Rattle.prolog_lexer.specs.Classes.{class, is_word, is_symbol}
 use Rattle.prolog_lexer.specs.Digits.{value}
 use Rattle.prolog_lexer.specs.Escapes.{AreAll, AreDigits, Inside}
 use Rattle.prolog_lexer.specs.Pieces.{begins_comment}
+use Rattle.prolog_lexer.specs.Streams.{Stream, token}
 use Rattle.prolog_lexer.specs.Tokens.{token_at}
 use Rattle.prolog_lexer.specs.declared.token.Token.{Token}
 use Rattle.prolog_lexer.specs.declared.token.TokenKind.{TokenKind}
@@ -34,10 +35,10 @@ pub record Lexeme : Type 0 where
 abbrev pub lexeme : TokenKind → ℕ → Lexeme
 lexeme kind n = record { kind = kind; bytes = n }
 
--- the only line of a text, and tokens from a place on with nothing between them
-abbrev pub tokens_from : ℕ → List Lexeme → List Token
-tokens_from at [] = []
-tokens_from at (x ∷ xs) = token_at at 1 x.bytes x.kind ∷ tokens_from (at + x.bytes) xs
+-- tokens from a place in a line on with nothing between them
+abbrev pub tokens_from : ℕ → ℕ → List Lexeme → List Token
+tokens_from line at [] = []
+tokens_from line at (x ∷ xs) = token_at at line x.bytes x.kind ∷ tokens_from line (at + x.bytes) xs
 
 -- The text of a piece, and its tokens: two for a negative integer, and for the names [] and {}.
 pub data Spells : List ℕ → List Lexeme → Type 0 where
@@ -57,11 +58,20 @@ pub data AllSpell : List Piece → List (List Lexeme) → Type 0 where
   nothing : AllSpell [] []
   further : {ps : List Piece} {xss : List (List Lexeme)} (p : Piece) (xs : List Lexeme) → Spells p.text xs → AllSpell ps xss → AllSpell (p ∷ ps) (xs ∷ xss)
 
--- the tokens of pieces from a place on, behind what ends so, with the spaces between them; at last the End behind a space
-abbrev pub tokens_of : Option Edge → ℕ → List Piece → List (List Lexeme) → List Token
-tokens_of before at (p ∷ ps) (xs ∷ xss) =
-    tokens_from (at + length (gap before p)) xs ++ tokens_of (edge_of p) (at + length (gap before p) + length p.text) ps xss
-tokens_of before at _ _ = token_at (at + 1) 1 1 Stop ∷ []
+-- the tokens of pieces from a place in a line on, behind what ends so, with the spaces between them; at last these tokens
+abbrev pub tokens_of : ℕ → Option Edge → ℕ → List Piece → List (List Lexeme) → List Token → List Token
+tokens_of line before at (p ∷ ps) (xs ∷ xss) rest =
+    tokens_from line (at + length (gap before p)) xs ++ tokens_of line (edge_of p) (at + length (gap before p) + length p.text) ps xss rest
+tokens_of line before at _ _ rest = rest
+
+-- tokens, and then what a stream has
+abbrev pub followed : List Token → Stream → Stream
+followed [] s = s
+followed (t ∷ ts) s = token t (followed ts s)
+
+-- an End of one byte at a place in a line
+abbrev pub end_at : ℕ → ℕ → Token
+end_at at line = token_at at line 1 Stop
 
 -- ---- the tokens of names
 

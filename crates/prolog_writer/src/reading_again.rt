@@ -1,15 +1,14 @@
 // What the text of pieces is read as.
-ghost use Rattle.std.specs.Prelude.{◌≡◌, ◌<◌, ◌≤◌, ◌^◌, ◌++◌, ◌∷◌, [], ℕ, List, Bool, false, true, codes, length, None};
+ghost use Rattle.std.specs.Prelude.{◌≡◌, ◌<◌, ◌≤◌, ◌+◌, ◌^◌, ◌++◌, ◌∷◌, [], ℕ, List, Bool, false, true, codes, length, None};
 ghost use Rattle.std.specs.Fmt.{decimal};
 ghost use Rattle.prolog_lexer.specs.declared.token.TokenKind.TheVariants.{Name, Variable, Integer};
-ghost use Rattle.prolog_lexer.specs.Streams.{tokens};
-ghost use Rattle.prolog_lexer.specs.Tokens.{stream_of, at_end};
+ghost use Rattle.prolog_lexer.specs.Pieces.{is_break};
+ghost use Rattle.prolog_lexer.specs.Streams.{stream};
 ghost use Rattle.prolog_terms.specs.Tree.{Tree, HasArities, HasWholes};
 ghost use Rattle.prolog_terms.specs.Operators.{Table, IsTable};
 ghost use Rattle.prolog_terms.specs.Substitutions.{numbered, variable_count};
 ghost use Rattle.prolog_reader.specs.Numberings.{Numbering, no_variables, shown_of};
 ghost use Rattle.prolog_reader.specs.Reads.{Reads};
-ghost use Rattle.prolog_reader.specs.Texts.{upto};
 ghost use Rattle.prolog_writer.specs.declared.style.Style.{Style};
 ghost use Rattle.prolog_writer.specs.declared.shape.Place.TheVariants.{Within};
 ghost use Rattle.prolog_writer.specs.Pieces.{pieces, written};
@@ -18,12 +17,14 @@ ghost use Rattle.prolog_writer.specs.Tokens.{lexemes};
 ghost use Rattle.prolog_writer.specs.Told.{told, as_told};
 ghost use Rattle.prolog_writer.specs.Spelling.{has_quotes, stands_alone, name_text, variable_text};
 ghost use Rattle.prolog_writer.specs.Spaces.{Piece, text_of};
-ghost use Rattle.prolog_writer.specs.Lexemes.{Lexeme, lexeme, Spells, AllSpell, tokens_of, lexemes_of_name};
+ghost use Rattle.prolog_writer.specs.Lexemes.{Lexeme, lexeme, Spells, AllSpell, tokens_of, followed, end_at, lexemes_of_name};
 
-/// The text of pieces, each of which is spelled as its tokens, has these tokens: no two pieces run together, and no space
-/// stands within one.
+/// The text of pieces, each of which is spelled as its tokens, with ` .` and then the end of the text, layout or `%` behind it,
+/// has these tokens, an End and what is behind, at each place of a text: no two pieces run together, and no space stands
+/// within one.
 pub fn texts_have_tokens()
-    ensures { (ps : List Piece) (xss : List (List Lexeme)) → AllSpell ps xss → tokens (text_of ps ++ codes " .") ≡ stream_of (tokens_of None 0 ps xss) at_end }
+    ensures { (ps : List Piece) (xss : List (List Lexeme)) → AllSpell ps xss → (at line : ℕ) (later : List ℕ) → is_break later ≡ true
+        → stream 0 at line (text_of ps ++ (codes " ." ++ later)) ≡ followed (tokens_of line None at ps xss (end_at (at + length (text_of ps) + 1) line ∷ [])) (stream 0 (at + length (text_of ps) + 2) line later) }
 {
     prolog_lexer::tokens_by_cases();
 }
@@ -37,9 +38,11 @@ pub fn parts_have_tokens()
     ensures variables { (n : ℕ) → n < 2 ^ 64 → Spells (variable_text n) (lexeme (Variable (variable_text n)) (length (variable_text n)) ∷ []) }
 {}
 
-/// The text of a term, Quoted or Canonical, has the tokens of its pieces.
+/// The text of a term, Quoted or Canonical, has the tokens of its pieces, wherever it stands with ` .` behind it.
 pub fn terms_have_tokens()
-    ensures { (ops : Table) (style : Style) (max : ℕ) (t : Tree) → has_quotes style ≡ true → HasWholes t → tokens (written ops style max t ++ codes " .") ≡ stream_of (tokens_of None 0 (pieces ops style (Within max) t) (lexemes ops style (Within max) t)) at_end }
+    ensures { (ops : Table) (style : Style) (max : ℕ) (t : Tree) → has_quotes style ≡ true → HasWholes t → (at line : ℕ) (later : List ℕ) → is_break later ≡ true
+        → stream 0 at line (written ops style max t ++ (codes " ." ++ later))
+        ≡ followed (tokens_of line None at (pieces ops style (Within max) t) (lexemes ops style (Within max) t) (end_at (at + length (written ops style max t) + 1) line ∷ [])) (stream 0 (at + length (written ops style max t) + 2) line later) }
 {
     texts_have_tokens();
 }
@@ -57,14 +60,16 @@ pub fn variables_are_numbered()
     ensures shown { (t : Tree) → HasWholes t → shown_of (told t no_variables).known ≡ [] }
 {}
 
-/// The tokens of a term, Quoted or Canonical, read as the term, each variable by the name that it is written with.
+/// The tokens of a term, Quoted or Canonical, read as the term, each variable by the name that it is written with, from each
+/// place in each line on.
 pub fn terms_read()
-    ensures { (ops : Table) (style : Style) (max : ℕ) (t : Tree) (vs : Numbering) → IsLawful ops → has_quotes style ≡ true → HasArities t → HasWholes t
-        → (q : ℕ) × Reads ops 1200 (upto (stream_of (tokens_of None 0 (pieces ops style (Within max) t) (lexemes ops style (Within max) t)) at_end)) vs q (as_told t vs) [] (told t vs) }
+    ensures { (ops : Table) (style : Style) (max : ℕ) (t : Tree) (vs : Numbering) → IsLawful ops → has_quotes style ≡ true → HasArities t → HasWholes t → (at line : ℕ)
+        → (q : ℕ) × Reads ops 1200 (tokens_of line None at (pieces ops style (Within max) t) (lexemes ops style (Within max) t) []) vs q (as_told t vs) [] (told t vs) }
 {}
 
 /// A term that is written with quotes, under a table that declarations make, and followed by ` .`, is read again as the same
-/// term, its variables numbered by first occurrence.
+/// term, its variables numbered by first occurrence, wherever it stands in a text and whatever stands behind it; what is left
+/// then is what stands behind the ` .`.
 pub fn written_is_read_again()
     ensures { IsReadAgain }
 {

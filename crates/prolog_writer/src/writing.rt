@@ -1,5 +1,5 @@
 // The text of a term, node by node.
-ghost use Rattle.std.specs.Prelude.{◌≡◌, ◌≤◌, List, [], ◌∷◌, ◌++◌, true, OnOk, IfOk, drop, length};
+ghost use Rattle.std.specs.Prelude.{◌≡◌, ◌≤◌, ℕ, List, [], ◌∷◌, ◌++◌, true, OnOk, IfOk, drop, length};
 ghost use Rattle.prolog_terms.specs.Tree.{Tree, HasArities, HasWholes};
 ghost use Rattle.prolog_terms.specs.Flat.{nodes as nodes_of};
 ghost use Rattle.prolog_writer.specs.Spaces.{added, all_added};
@@ -8,7 +8,7 @@ ghost use Rattle.prolog_writer.specs.Frames.{behind, frames_behind, opening, beg
 ghost use Rattle.prolog_writer.specs.declared.shape.Place.TheVariants.{Within};
 ghost use Rattle.prolog_writer.specs.Pieces as spec;
 ghost use Rattle.prolog_writer.specs.Spelling.{has_quotes};
-ghost use Rattle.prolog_writer.specs.Again.{IsReadAs, ReadsAgain};
+ghost use Rattle.prolog_writer.specs.Again.{IsReadAs};
 
 use crate::Style;
 use crate::frames::{Frame, Frames, opened};
@@ -244,7 +244,7 @@ fn put_front(out: &mut Output, manner: Manner<'_>, nodes: &[Node]) -> Result<usi
 
 /// Puts the text of the term at the front of these nodes at the end of a text, as `write` gives it, and answers how many nodes
 /// the term has. The bytes that were there stay, and no space is put between them and the term's. After want of memory the
-/// text may be any. What is written of a term in Quoted or Canonical is read again as the term (`write`).
+/// text may be any. What is added of a term in Quoted or Canonical is read again as the term (`write`).
 pub fn write_front(
     alloc: Global,
     text: &mut Vec<u8>,
@@ -256,7 +256,7 @@ pub fn write_front(
     ensures text { (t : Tree) → (rest : List Node) → HasArities t → nodes.now ≡ nodes_of t ++ rest → OnOk result (text.new.items ≡ text.old.items ++ written ops.now style max t) }
     ensures count { (t : Tree) → (rest : List Node) → HasArities t → nodes.now ≡ nodes_of t ++ rest → IfOk result (λ n. n ≡ length (nodes_of t)) }
     ensures within { IfOk result (λ n. n ≤ length nodes.now) }
-    ensures read_again { (t : Tree) → HasArities t → HasWholes t → has_quotes style ≡ true → ReadsAgain ops.now style max t }
+    ensures read_again { (t : Tree) → (rest : List Node) → HasArities t → HasWholes t → nodes.now ≡ nodes_of t ++ rest → has_quotes style ≡ true → IfOk result (λ _. (added : List ℕ) × (text.new.items ≡ text.old.items ++ added) × IsReadAs ops.now added t) }
 {
     ops.known();
     written_is_read_again();
@@ -273,8 +273,9 @@ pub fn write_front(
 }
 
 /// The text of a term in a style, under an operator table, where its priority may be `max` at most. No depth of the term is
-/// too great. Where names have quotes, so in Quoted and Canonical, the text with ` .` behind it is read again as the same term
-/// under the same table, with its variables numbered from 0 by first occurrence.
+/// too great. Where names have quotes, so in Quoted and Canonical, the text is read again as the same term under the same
+/// table, with its variables numbered from 0 by first occurrence: wherever it stands in a text with ` .` behind it, and behind
+/// that the end of the text, layout or `%`; what is left then is what stands behind the ` .`.
 pub fn write(alloc: Global, term: &Term, ops: &Ops, style: Style, max: u16) -> Result<Vec<u8>, Want>
     ensures text { IfOk result (λ text. text.items ≡ written ops.now style max term.now) }
     ensures read_again { IfOk result (λ text. has_quotes style ≡ true → IsReadAs ops.now text.items term.now) }

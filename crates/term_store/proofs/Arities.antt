@@ -10,7 +10,7 @@ use Rattle.term_store.specs.Shape.{Shape}
 use Rattle.term_store.specs.Terms.{trees_of, row_at, raw_at, raw_by, bindings_by, resolved, IsWithin, IsCell, IsRow, IsShape}
 use Rattle.term_store.proofs.Rows.{within-more}
 
-count-trees : (f : Cell → Tree) (cs : List Cell) → count (trees_of f cs) ≡ length cs
+pub count-trees : (f : Cell → Tree) (cs : List Cell) → count (trees_of f cs) ≡ length cs
 count-trees f [] = refl
 count-trees f (c ∷ cs) = let h = count-trees f cs in omega (arith, h)
 

@@ -84,7 +84,7 @@ raw-same s t texts c h later w =
     ap (λ (rows : List (ℕ × List Cell)). raw_by (text texts) rows c) later.compounds
     ∙ raw-later (text texts) s.compounds later.rows s.variables h.compounds c w
 
-text-longer : (a b : List (List ℕ)) → AreLonger a b → (n : ℕ) → n < length a → text b n ≡ text a n
+pub text-longer : (a b : List (List ℕ)) → AreLonger a b → (n : ℕ) → n < length a → text b n ≡ text a n
 text-longer a b h n low = ap (λ (ts : List (List ℕ)). text ts n) h.texts ∙ get_or_append_left a h.added [] n low
 
 -- as they were built, with further names

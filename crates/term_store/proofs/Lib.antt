@@ -19,3 +19,9 @@ mod Beyond
 mod Puts
 mod Orders
 mod Readings
+mod Compared
+mod Unfolds
+mod Rebuilds
+mod Fronts
+mod Matched
+mod Leaves

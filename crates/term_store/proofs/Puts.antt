@@ -75,15 +75,15 @@ cells-push s texts stack after ts c u cells has is pushed =
       trees = ap (trees_of (raw texts s)) e ∙ ap₂ more is cells.trees;
     }
 
-all-right : {A : Type 0} (P : A → Type 0) (xs ys : List A) → All P (xs ++ ys) → All P ys
+pub all-right : {A : Type 0} (P : A → Type 0) (xs ys : List A) → All P (xs ++ ys) → All P ys
 all-right P [] ys h = h
 all-right P (x ∷ xs) ys h = all-right P xs ys (λ k d lt. h (suc k) d (omega arith))
 
-first-row : (f : Cell → Tree) (xs ys : List Cell) → first (length xs) (trees_of f (xs ++ ys)) ≡ trees_of f xs
+pub first-row : (f : Cell → Tree) (xs ys : List Cell) → first (length xs) (trees_of f (xs ++ ys)) ≡ trees_of f xs
 first-row f [] ys = refl
 first-row f (x ∷ xs) ys = ap (more (f x)) (first-row f xs ys)
 
-past-row : (f : Cell → Tree) (xs ys : List Cell) → past (length xs) (trees_of f (xs ++ ys)) ≡ trees_of f ys
+pub past-row : (f : Cell → Tree) (xs ys : List Cell) → past (length xs) (trees_of f (xs ++ ys)) ≡ trees_of f ys
 past-row f [] ys = refl
 past-row f (x ∷ xs) ys = past-row f xs ys
 
@@ -159,7 +159,7 @@ cells-atom s texts longer stack after ts from n a node h named more_names cells 
 
 -- ---- the nodes of a term
 
-count-chained : (ts us : Trees) → count (chained ts us) ≡ count ts + count us
+pub count-chained : (ts us : Trees) → count (chained ts us) ≡ count ts + count us
 count-chained none us = omega arith
 count-chained (more t ts) us = let h = count-chained ts us in omega (arith, h)
 
@@ -181,7 +181,7 @@ mutual
 pub fit-term : (m from : ℕ) (t : Tree) → from + beyond t ≤ m → HasArities t → AreFit m from (nodes t)
 fit-term m from t low h = subst (AreFit m from) (append-nil (nodes t)) (fit-nodes m from t [] low h tt)
 
-fit-drop : (m from : ℕ) (ns : List Node) (i : ℕ) → AreFit m from ns → AreFit m from (drop i ns)
+pub fit-drop : (m from : ℕ) (ns : List Node) (i : ℕ) → AreFit m from ns → AreFit m from (drop i ns)
 fit-drop m from ns zero h = h
 fit-drop m from [] (suc i) h = h
 fit-drop m from (n ∷ ns) (suc i) h = fit-drop m from ns i h.1
@@ -191,12 +191,12 @@ fit-at m from [] i d low h = absurd (omega arith)
 fit-at m from (n ∷ ns) zero d low h = h.0
 fit-at m from (n ∷ ns) (suc i) d low h = fit-at m from ns i d (omega arith) h.1
 
-first-substituted : (s : ℕ → Tree) (n : ℕ) (ts : Trees) → all_substituted s (first n ts) ≡ first n (all_substituted s ts)
+pub first-substituted : (s : ℕ → Tree) (n : ℕ) (ts : Trees) → all_substituted s (first n ts) ≡ first n (all_substituted s ts)
 first-substituted s zero ts = refl
 first-substituted s (suc n) none = refl
 first-substituted s (suc n) (more t ts) = ap (more (substituted s t)) (first-substituted s n ts)
 
-past-substituted : (s : ℕ → Tree) (n : ℕ) (ts : Trees) → all_substituted s (past n ts) ≡ past n (all_substituted s ts)
+pub past-substituted : (s : ℕ → Tree) (n : ℕ) (ts : Trees) → all_substituted s (past n ts) ≡ past n (all_substituted s ts)
 past-substituted s zero ts = refl
 past-substituted s (suc n) none = refl
 past-substituted s (suc n) (more t ts) = past-substituted s n ts
@@ -213,11 +213,11 @@ pub next-placed : (from : ℕ) (ns : List Node) (i : ℕ) (d : Node) → i < len
 next-placed from ns i d low =
     forest-placed from (slice_index_or ns i d) (drop (suc i) ns) ∙ ap (λ (ms : List Node). all_substituted (shifted from) (forest ms)) (sym (drop-cons ns i d low))
 
-count-substituted : (s : ℕ → Tree) (ts : Trees) → count (all_substituted s ts) ≡ count ts
+pub count-substituted : (s : ℕ → Tree) (ts : Trees) → count (all_substituted s ts) ≡ count ts
 count-substituted s none = refl
 count-substituted s (more t ts) = ap (λ (n : ℕ). n + 1) (count-substituted s ts)
 
-count-trees_of : (f : Cell → Tree) (cs : List Cell) → count (trees_of f cs) ≡ length cs
+pub count-trees_of : (f : Cell → Tree) (cs : List Cell) → count (trees_of f cs) ≡ length cs
 count-trees_of f [] = refl
 count-trees_of f (c ∷ cs) = let h = count-trees_of f cs in omega (arith, h)
 
@@ -250,13 +250,28 @@ grows-later s t a b h =
       variables = omega arith;
     })
 
-pub cells-end : (s : Shape) (texts : List (List ℕ)) (stack rest : List Cell) (c : Cell) (from : ℕ) (t : Tree) → AreCells s texts stack (all_substituted (shifted from) (forest (nodes t)))
-    → stack ≡ rest ++ c ∷ [] → HasTerm (length texts) s c × (raw texts s c ≡ substituted (shifted from) t)
-cells-end s texts stack rest c from t h popped =
-    let e : reverse stack ≡ c ∷ reverse rest = ap reverse popped ∙ reverse-append rest (c ∷ []) in
-    let one : forest (nodes t) ≡ more t none = ap forest (sym (append-nil (nodes t))) ∙ forest-nodes t [] in
-    let all : more (raw texts s c) (trees_of (raw texts s) (reverse rest)) ≡ more (substituted (shifted from) t) none
-    = sym (ap (trees_of (raw texts s)) e) ∙ h.trees ∙ ap (all_substituted (shifted from)) one in (
-      All-head (HasTerm (length texts) s) c (reverse rest) (subst (All (HasTerm (length texts) s)) e h.cells),
-      same_first _ _ _ _ all,
-    )
+last-first : (stack rest : List Cell) (c : Cell) → stack ≡ rest ++ c ∷ [] → reverse stack ≡ c ∷ reverse rest
+last-first stack rest c popped = ap reverse popped ∙ reverse-append rest (c ∷ [])
+
+-- the last cell of a stack
+pub cells-last : (s : Shape) (texts : List (List ℕ)) (stack rest : List Cell) (c : Cell) (ts : Trees) → AreCells s texts stack ts → stack ≡ rest ++ c ∷ [] → HasTerm (length texts) s c
+cells-last s texts stack rest c ts h popped =
+    All-head (HasTerm (length texts) s) c (reverse rest) (subst (All (HasTerm (length texts) s)) (last-first stack rest c popped) h.cells)
+
+only-one : (f : Cell → Tree) (cs : List Cell) (c : Cell) → count (trees_of f (c ∷ cs)) ≡ 1 → more (f c) none ≡ trees_of f (c ∷ cs)
+only-one f [] c one = refl
+only-one f (d ∷ cs) c one = absurd (omega (arith, one))
+
+-- it is the only one where it has the only tree
+pub cells-only : (s : Shape) (texts : List (List ℕ)) (stack rest : List Cell) (c : Cell) (ts : Trees) → AreCells s texts stack ts → stack ≡ rest ++ c ∷ [] → count ts ≡ 1
+    → more (raw texts s c) none ≡ ts
+cells-only s texts stack rest c ts h popped one =
+    let e : trees_of (raw texts s) (c ∷ reverse rest) ≡ ts = sym (ap (trees_of (raw texts s)) (last-first stack rest c popped)) ∙ h.trees in
+    only-one (raw texts s) (reverse rest) c (ap count e ∙ one) ∙ e
+
+-- the trees of a term's nodes
+pub forest-term : (t : Tree) → forest (nodes t) ≡ more t none
+forest-term t = ap forest (sym (append-nil (nodes t))) ∙ forest-nodes t []
+
+pub forest-only : (f : ℕ → Tree) (t u : Tree) (ns : List Node) → ns ≡ nodes t → more u none ≡ all_substituted f (forest ns) → u ≡ substituted f t
+forest-only f t u ns e h = same_first _ _ _ _ (h ∙ ap (λ (ms : List Node). all_substituted f (forest ms)) e ∙ ap (all_substituted f) (forest-term t))

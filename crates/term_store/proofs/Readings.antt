@@ -98,7 +98,7 @@ nodes-append r f (c ∷ cs) ds =
     ap (λ (ns : List Node). nodes (substituted r (f c)) ++ ns) (nodes-append r f cs ds)
     ∙ sym (append_assoc (nodes (substituted r (f c))) (nodes_all (all_substituted r (trees_of f cs))) (nodes_all (all_substituted r (trees_of f ds))))
 
-after-append : (seen : List ℕ) (f : Cell → Tree) (cs ds : List Cell) → all_variables_after seen (trees_of f (cs ++ ds)) ≡ all_variables_after (all_variables_after seen (trees_of f cs)) (trees_of f ds)
+pub after-append : (seen : List ℕ) (f : Cell → Tree) (cs ds : List Cell) → all_variables_after seen (trees_of f (cs ++ ds)) ≡ all_variables_after (all_variables_after seen (trees_of f cs)) (trees_of f ds)
 after-append seen f [] ds = refl
 after-append seen f (c ∷ cs) ds = after-append (variables_after seen (f c)) f cs ds
 
@@ -153,7 +153,7 @@ module _ (texts : List (List ℕ)) (s : Shape) (t : Tree) (old todo after : List
       let b = ap (λ (cs : List Cell). size_all (trees_of (value plain s) cs)) read.todo_is ∙ size-append (value plain s) read.args (reverse todo) in
       let k = read.smaller in omega (arith, a, b, k)
 
-no_cells : (cs : List Cell) → length cs ≡ 0 → cs ≡ []
+pub no_cells : (cs : List Cell) → length cs ≡ 0 → cs ≡ []
 no_cells [] e = refl
 no_cells (c ∷ cs) e = absurd (omega arith)
 

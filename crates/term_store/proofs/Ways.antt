@@ -79,7 +79,7 @@ way-later s now a b work way =
 
 -- ---- the end
 
-bindings_by-append : (name : ℕ → List ℕ) (rows : List (ℕ × List Cell)) (bs cs : List (ℕ × Cell)) → bindings_by name rows (bs ++ cs) ≡ bindings_by name rows bs ++ bindings_by name rows cs
+pub bindings_by-append : (name : ℕ → List ℕ) (rows : List (ℕ × List Cell)) (bs cs : List (ℕ × Cell)) → bindings_by name rows (bs ++ cs) ≡ bindings_by name rows bs ++ bindings_by name rows cs
 bindings_by-append name rows [] cs = refl
 bindings_by-append name rows (b ∷ bs) cs = ap (λ (ds : List (ℕ × Tree)). (b.0, raw_by name rows b.1) ∷ ds) (bindings_by-append name rows bs cs)
 

@@ -7,3 +7,6 @@ pub mod Work
 pub mod Puts
 pub mod Reads
 pub mod Laws
+pub mod Compares
+pub mod Copies
+pub mod Heads

@@ -76,11 +76,16 @@ abbrev pub IsFound : Shape → ℕ → Cell → Bool → Type 0
 IsFound s x c true = (name : ℕ → List ℕ) → Occurs x (value name s c)
 IsFound s x c false = (name : ℕ → List ℕ) → Occurs x (value name s c) → ⊥
 
--- the variable stands in what the cell stands for exactly where it stands in what one of the cells to do stands for
-pub record IsWalk (s : Shape) (x : ℕ) (c : Cell) (todo : List Cell) : Type 0 where
+-- the variable stands in what one of the cells stands for, or in none of them, whatever the names are
+abbrev pub AreFound : Shape → ℕ → List Cell → Bool → Type 0
+AreFound s x cs true = (name : ℕ → List ℕ) → OccursIn x (trees_of (value name s) cs)
+AreFound s x cs false = (name : ℕ → List ℕ) → OccursIn x (trees_of (value name s) cs) → ⊥
+
+-- the variable stands in what one of the cells stands for exactly where it stands in what one of the cells to do stands for
+pub record IsWalk (s : Shape) (x : ℕ) (cells todo : List Cell) : Type 0 where
   pub valid : All (IsCell s) todo
-  pub there : (name : ℕ → List ℕ) → Occurs x (value name s c) → OccursIn x (trees_of (value name s) todo)
-  pub back : (name : ℕ → List ℕ) → OccursIn x (trees_of (value name s) todo) → Occurs x (value name s c)
+  pub there : (name : ℕ → List ℕ) → OccursIn x (trees_of (value name s) cells) → OccursIn x (trees_of (value name s) todo)
+  pub back : (name : ℕ → List ℕ) → OccursIn x (trees_of (value name s) todo) → OccursIn x (trees_of (value name s) cells)
 
 -- ---- pairs of cells
 

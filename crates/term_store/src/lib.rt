@@ -7,6 +7,9 @@
 mod above;
 mod bound;
 mod cell;
+mod compare;
+mod copy;
+mod heads;
 mod heap;
 mod law;
 mod order;

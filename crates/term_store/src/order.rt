@@ -1,5 +1,5 @@
 // The variables of a term, in order of first occurrence.
-ghost use Rattle.std.specs.Prelude.{◌≡◌, [], IfOk, OnErr};
+ghost use Rattle.std.specs.Prelude.{◌≡◌, ◌<◌, [], length, IfOk, IfSome, OnErr};
 ghost use Rattle.prolog_terms.specs.Tree.{variable};
 ghost use Rattle.prolog_terms.specs.Substitutions.{variables_after, place_of};
 
@@ -35,6 +35,21 @@ impl Seen {
             order: Vec::new(alloc),
             places: BTreeMap::new(alloc),
         }
+    }
+
+    /// How many have been met.
+    pub fn count(&self) -> u64
+        ensures { result ≡ length self.now }
+    {
+        self.order.len() as u64
+    }
+
+    /// The place of a variable that has been met.
+    pub fn find(&self, number: u64) -> Option<u64>
+        ensures place { IfSome result (λ n. n ≡ place_of number self.now) }
+        ensures low { IfSome result (λ n. n < length self.now) }
+    {
+        self.places.get(&number).copied()
     }
 
     /// The place of a variable, which is the next one where it is met first.

@@ -1,8 +1,8 @@
 // Terms into a store.
 ghost use Rattle.std.specs.Prelude.{◌≡◌, ℕ, List, ◌≤◌, ◌+◌, ◌++◌, length, reverse, All, IfOk, OnOk};
-ghost use Rattle.prolog_terms.specs.Tree.{Trees, variable};
-ghost use Rattle.prolog_terms.specs.Substitutions.{substituted, beyond};
-ghost use Rattle.prolog_terms.specs.Flat.{joined};
+ghost use Rattle.prolog_terms.specs.Tree.{Trees, variable, none, more, count};
+ghost use Rattle.prolog_terms.specs.Substitutions.{substituted, all_substituted, beyond};
+ghost use Rattle.prolog_terms.specs.Flat.{forest, joined};
 
 use crate::Cell;
 use crate::store::Store;
@@ -12,10 +12,10 @@ use std::alloc::Global;
 impl Store {
     ghost use Rattle.term_store.specs.Terms.{raw, HasTerm, AreNamed};
     ghost use Rattle.term_store.specs.Later.{IsLater, AreLonger, AreDistinct};
-    ghost use Rattle.term_store.specs.Puts.{placed, IsFit, Grows, AreCells};
+    ghost use Rattle.term_store.specs.Puts.{shifted, placed, IsFit, AreFit, Grows, AreCells};
 
     /// A cell of the term, whose variable n is the store's variable from + n; its texts get numbers. At Want some of
-    /// its compounds may stand in the store, and some of its texts may have got numbers.
+    /// its compounds may stand in the store, and some of its texts may have got numbers. The time is linear in the term.
     pub fn put(&mut self, names: &mut Names, term: &Term, from: u64) -> Result<Cell, Want>
         requires variables { from + beyond term.now ≤ self.old.variables }
         requires named { AreNamed (length names.old) self.old }
@@ -29,8 +29,24 @@ impl Store {
         ensures term { IfOk result (λ c. raw names.new self.new c ≡ substituted (λ n. variable (from + n)) term.now) }
     {
         let _ = names.count();
+        self.put_nodes(names, term.nodes(), from)
+    }
+
+    /// Puts the term of these nodes, its variables from a number on.
+    pub(crate) fn put_nodes(
+        &mut self,
+        names: &mut Names,
+        nodes: &[Node],
+        from: u64,
+    ) -> Result<Cell, Want>
+        requires one { count (forest nodes.now) ≡ 1 }
+        requires fit { AreFit self.old.variables from nodes.now }
+        requires named { AreNamed (length names.old) self.old }
+        ensures grows { Grows self.old names.old self.new names.new }
+        ensures cell { IfOk result (λ c. HasTerm (length names.new) self.new c) }
+        ensures term { IfOk result (λ c. more (raw names.new self.new c) none ≡ all_substituted (shifted from) (forest nodes.now)) }
+    {
         let mut stack = Vec::new(self.allocator());
-        let nodes = term.nodes();
         let mut at = nodes.len();
         while at > 0 {
             at -= 1;
@@ -102,7 +118,7 @@ impl Store {
 }
 
 /// The last cells of a stack, the last one first, which are taken off it.
-fn take_row(alloc: Global, stack: &mut Vec<Cell>, count: u32) -> Result<Vec<Cell>, Want>
+pub(crate) fn take_row(alloc: Global, stack: &mut Vec<Cell>, count: u32) -> Result<Vec<Cell>, Want>
     requires { count ≤ length stack.old.items }
     ensures row { IfOk result (λ row. reverse stack.old.items ≡ row.items ++ reverse stack.new.items) }
     ensures count { IfOk result (λ row. length row.items ≡ count) }

@@ -12,7 +12,9 @@ impl Store {
     ghost use Rattle.term_store.specs.Terms.{term_of, HasTerm, AreNamed};
     ghost use Rattle.term_store.specs.Reads.{IsRead};
 
-    /// The term that the cell stands for, its variables numbered from 0 by first occurrence.
+    /// The term that the cell stands for, its variables numbered from 0 by first occurrence. The time is linear in the
+    /// term as unfolded, up to the logarithm of the count of its variables: parts that stand there more than once are
+    /// written as often.
     pub fn read_back(&self, names: &Names, cell: Cell) -> Result<Term, Want>
         requires named { AreNamed (length names.now) self.now }
         requires valid { HasTerm (length names.now) self.now cell }
@@ -72,7 +74,7 @@ impl Store {
 }
 
 /// Appends cells to what is to do, the first of them last.
-fn push_back(todo: &mut Vec<Cell>, cells: &[Cell]) -> Result<(), Want>
+pub(crate) fn push_back(todo: &mut Vec<Cell>, cells: &[Cell]) -> Result<(), Want>
     ensures { OnOk result (reverse todo.new.items ≡ cells.now ++ reverse todo.old.items) }
 {
     let mut at = cells.len();

@@ -2,7 +2,7 @@
 ghost use Rattle.std.specs.Ordering.{int_eq};
 ghost use Rattle.prolog_terms.specs.Tree.{Tree};
 ghost use Rattle.prolog_terms.specs.Substitutions.{substituted};
-ghost use Rattle.std.specs.Prelude.{◌≡◌, ℕ, ◌<◌, ◌≤◌, ◌+◌, ◌++◌, ◌∷◌, [], List, None, length, IsTrue, IsFalse, ◌↔◌, IfOk, OnOk, OnErr};
+ghost use Rattle.std.specs.Prelude.{◌≡◌, ℕ, ◌<◌, ◌≤◌, ◌+◌, ◌++◌, ◌∷◌, [], List, None, All, length, IsTrue, IsFalse, ◌↔◌, IfOk, OnOk, OnErr};
 ghost use Rattle.term_store.specs.Work.{pairs_of};
 
 use crate::store::Store;
@@ -17,10 +17,10 @@ pub(crate) struct Pair {
 }
 
 impl Store {
-    ghost use Rattle.term_store.specs.Work.{Solves, IsFreeIfVariable, IsFound, Outcome};
+    ghost use Rattle.term_store.specs.Work.{Solves, IsFreeIfVariable, IsFound, AreFound, Outcome};
     ghost use Rattle.term_store.specs.Terms.{raw_by, bindings_by, lookup, IsShape, IsNamed, IsOlder, term_of, text, IsCell, HasTerm, AreNamed, IsUnified, HaveNoUnifier};
     ghost use Rattle.term_store.specs.Later.{IsLater, AreDistinct};
-    ghost use Rattle.term_store.specs.Views.{Looks, tree_of};
+    ghost use Rattle.term_store.specs.Views.{Looks, Sees, tree_of};
 
     /// The cell at the end of a cell's bindings: a free variable, or no variable.
     fn follow(&self, cell: Cell) -> Cell
@@ -42,6 +42,20 @@ impl Store {
         cell
     }
 
+    /// The cell at the end of a cell's bindings: a free variable, or no variable. It stands for the same term, and what
+    /// is seen there is what a look at the cell shows. It takes a step for each variable that is bound to the next one,
+    /// however large the term.
+    pub fn deref(&self, cell: Cell) -> Cell
+        requires { IsCell self.now cell }
+        ensures valid { IsCell self.now result }
+        ensures named { (count : ℕ) → AreNamed count self.now → IsNamed count cell → IsNamed count result }
+        ensures free { IsFreeIfVariable self.now result }
+        ensures looks { (view : View) → Sees self.now result view → Looks self.now cell view }
+        ensures term { (texts : List (List ℕ)) → term_of texts self.now result ≡ term_of texts self.now cell }
+    {
+        self.follow(cell)
+    }
+
     /// What stands at a cell, where bindings are followed down to a free variable or to what is no variable.
     pub fn look(&self, cell: Cell) -> View
         requires { IsCell self.now cell }
@@ -52,14 +66,28 @@ impl Store {
         self.node(end)
     }
 
-    /// Whether the variable stands in what the cell stands for.
+    /// Whether the variable stands in what the cell stands for. It takes no memory where the cell leads to no compound.
     fn occurs(&self, variable: u64, cell: Cell) -> Result<bool, Want>
         requires { IsCell self.now cell }
         ensures { IfOk result (λ found. IsFound self.now variable cell found) }
     {
         self.known();
+        match self.look(cell) {
+            View::Variable(other) => Ok(other == variable),
+            View::Integer(_) => Ok(false),
+            View::Atom(_) => Ok(false),
+            View::Compound(_, args) => self.occurs_in(variable, args),
+        }
+    }
+
+    /// Whether the variable stands in what one of the cells stands for.
+    fn occurs_in(&self, variable: u64, cells: &[Cell]) -> Result<bool, Want>
+        requires { All (IsCell self.now) cells.now }
+        ensures { IfOk result (λ found. AreFound self.now variable cells.now found) }
+    {
+        self.known();
         let mut todo = Vec::new(self.allocator());
-        todo.push(cell)?;
+        todo.extend_from_slice(cells)?;
         while let Some(next) = todo.pop() {
             match self.look(next) {
                 View::Variable(other) => {
@@ -78,7 +106,7 @@ impl Store {
     }
 
     /// Makes a free variable and a cell equal, by a binding of the variable.
-    fn solve_variable(&mut self, variable: u64, cell: Cell) -> Result<bool, Want>
+    pub(crate) fn solve_variable(&mut self, variable: u64, cell: Cell) -> Result<bool, Want>
         requires inside { variable < self.old.variables }
         requires valid { IsCell self.old cell }
         requires free { lookup self.old.bindings variable ≡ None }
@@ -95,13 +123,16 @@ impl Store {
         Ok(true)
     }
 
-    /// Makes two compounds equal, by pairs of their arguments.
+    /// Makes two compounds equal, by pairs of their arguments; a compound and itself are equal already.
     fn solve_compounds(&self, work: &mut Vec<Pair>, i: u64, j: u64) -> Result<bool, Want>
         requires left { i < length self.now.compounds }
         requires right { j < length self.now.compounds }
         ensures outcome { IfOk result (λ yes. Outcome self.now self.now work.old.items work.new.items (Cell.Compound i) (Cell.Compound j) yes) }
     {
         self.known();
+        if i == j {
+            return Ok(true);
+        }
         let (left_name, left) = self.row(i);
         let (right_name, right) = self.row(j);
         if left_name != right_name {

@@ -182,4 +182,14 @@ impl Store {
         self.bound.cut(mark.bindings);
         self.heap.cut(mark.compounds);
     }
+
+    /// Back to a mark, and to a count of variables: what was made since is gone.
+    pub(crate) fn restore(&mut self, mark: Trailed, variables: u64)
+        requires can { CanGoBack mark self.old }
+        requires formed { IsShape (record (back mark self.old) { variables = variables }) }
+        ensures { self.new ≡ record (back mark self.old) { variables = variables } }
+    {
+        self.undo_to(mark);
+        self.variables = variables;
+    }
 }

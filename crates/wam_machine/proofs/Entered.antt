@@ -66,9 +66,12 @@ pub still-unified : {C : Type 0} (t : Terms C) (u : Shape) (a b : Cell) → Grow
     → u.compounds ≡ t.store.compounds → IsUnified t.names t.store u a b → StillGoals t.names t.names t.store u
 still-unified t u a b g rows e = still-under t.names t.names t.store u g e.0 (λ c _. unified-term t.names t.store u a b c rows e)
 
--- back at a mark that was taken before the store grew
+-- back at a mark that was taken before the store grew: all is as it was, but that the new variables stay
+pub undone-wider : (m : Trailed) (s u : Shape) (n : ℕ) → CanGoBack m s → back m s ≡ s → IsLater s u → u.variables ≡ n → back m u ≡ record s { variables = n }
+undone-wider m s u n c e h v = back-later m s u c h ∙ ap₂ (λ (w : Shape) (k : ℕ). record w { variables = k }) e v
+
 pub undone : (m : Trailed) (s u : Shape) → CanGoBack m s → back m s ≡ s → IsLater s u → u.variables ≡ s.variables → back m u ≡ s
-undone m s u c e h v = back-later m s u c h ∙ ap₂ (λ (w : Shape) (n : ℕ). record w { variables = n }) e v
+undone m s u c e h v = undone-wider m s u s.variables c e h v
 
 -- ---- a clause's variables
 

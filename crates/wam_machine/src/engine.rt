@@ -65,10 +65,11 @@ impl<B: Base> Engine<B> {
         }
     }
 
-    /// The base, handed back.
-    pub fn into_base(self) -> B
-        ensures { result ≡ self.base }
+    /// The base and the operators, handed back.
+    pub fn into_parts(self) -> (B, Ops)
+        ensures base { result.0 ≡ self.base }
+        ensures ops { result.1 ≡ self.ops }
     {
-        self.base
+        (self.base, self.ops)
     }
 }

@@ -48,10 +48,12 @@ pub(crate) fn enter<C>(
     ensures err { OnErr result ((said terms.new).stack ≡ (said terms.old).stack) }
 {
     terms.store.known();
-    let from = terms.store.fresh(clause.vars)?;
     let mark = terms.store.mark();
-    let head = terms.store.put(&mut terms.names, &clause.head, from)?;
-    if !terms.store.unify(head, goal)? {
+    let from = terms.store.variables();
+    if !terms
+        .store
+        .unify_new(&mut terms.names, &clause.head, clause.vars, goal)?
+    {
         terms.store.undo_to(mark);
         return Ok(false);
     }

@@ -10,7 +10,7 @@ solve-run-requires-clause-out g c = out_before c.args.base c.in-Ok.engine.base c
 pub returns-clause-base : goal.returns-clause-base
 returns-clause-base g c =
     let s = c.solve-run.ensures in
-    c.into_base.ensures ∙ base_after c.args.base c.in-Ok.engine.base c.solve-run.new.self.base c.requires.out c.in-Ok.ensures.ok s.becomes s.seen s.out
+    c.into_parts-base.ensures.base ∙ base_after c.args.base c.in-Ok.engine.base c.solve-run.new.self.base c.requires.out c.in-Ok.ensures.ok s.becomes s.seen s.out
 
 pub returns-clause-run : goal.returns-clause-run
 returns-clause-run g c =

@@ -23,4 +23,5 @@ loop-goal-preserved g c =
     let loads = subst (λ (b : Plain). Loads (sizes_of b) c.args.steps (loaded_in b c.loop-goal.runs) (a_goal item ∷ []) (loaded_in b c.run_in_load.new.runs)) c.loop-goal.invariant.0 c.in_ok-base.ensures.run in (
       c.in_ok-base.ensures.base ∙ c.loop-goal.invariant.0,
       kept_step (sizes_of c.args.load.base) c.args.steps i c.args.load.kept item _ _ _ low is c.loop-goal.invariant.1 loads,
+      c.in_ok-base.ensures.ops ∙ c.loop-goal.invariant.2,
     )

@@ -1,4 +1,4 @@
-use Rattle.std.proofs.Common.{◌≡◌, ◌∙◌, ap, ◌++◌, List}
+use Rattle.std.proofs.Common.{◌∙◌, ap, ◌++◌, List}
 use Rattle.prolog_terms.specs.Flat.{nodes}
 use Rattle.prolog_terms.specs.Faults.{indicator_tree}
 use Rattle.prolog_terms.specs.declared.node.Node.{Node}

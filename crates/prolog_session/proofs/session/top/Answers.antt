@@ -1,5 +1,6 @@
-use Rattle.std.proofs.Common.{◌≡◌, ◌++◌, ◌∙◌, sym, subst, arith, List, ℕ}
+use Rattle.std.proofs.Common.{◌≡◌, ◌++◌, ◌∙◌, sym, subst, arith, List, ℕ, Option, Some, inl}
 use Rattle.std.specs.Prelude.{Any, All, IfSome, map, string_bytes}
+use Rattle.prolog_terms.specs.Operators.{Table}
 use Rattle.journal_base.specs.Journal.{Journal}
 use Rattle.journal_base.specs.Legal.{Legal}
 use Rattle.wam_machine.specs.declared.run.Run.{Run}
@@ -11,10 +12,10 @@ use Rattle.prolog_session.specs.Output.{load_text, output_of}
 use Rattle.prolog_session.specs.Sinks.{AppendsPrefix}
 use Rattle.std.specs.Io.KnownBytes.{Appends}
 use Rattle.prolog_session.specs.Runs.{EndsInBall, EndsSpent}
-use Rattle.prolog_session.specs.Headline.{Ends, expected, IsRun, HasRuns, IsLoaded, IsEmpty, IsStatus, AreRunsOf, HasRun, HasWritten, HasRefused, Gains}
+use Rattle.prolog_session.specs.Headline.{Ends, expected, IsRun, HasRuns, IsLoaded, IsEmpty, IsStatus, AreRunsOf, HasRun, Under, HasRefused, Gains}
 use Rattle.prolog_session.specs.Ends.{final_runs}
 use Rattle.prolog_session.proofs.Rows.{bad_words_row, source_row, too_long_row, refused_row, sink_row, ball_row, spent_row, exhausted_row}
-use Rattle.prolog_session.proofs.Outcomes.{load_runs_row, ran_row, runs_told, output_row, output_cut_row, output_told_row, refusal_told_row, empty_row, legal_row, text_row, shown_bad_words, shown_source, shown_too_long, in_part_row, complete_row, unread_row, too_long_read_row, wanted_row, statuses_row}
+use Rattle.prolog_session.proofs.Outcomes.{of_outcome, load_runs_row, ran_row, runs_told, operators_row, output_row, output_cut_row, output_told_row, refusal_told_row, empty_row, legal_row, text_row, shown_bad_words, shown_source, shown_too_long, in_part_row, complete_row, unread_row, too_long_read_row, wanted_row, statuses_row}
 use Rattle.prolog_session.proofs.session.top.Goals as goal
 
 pub returns-clause-bad_words : goal.returns-clause-bad_words
@@ -62,49 +63,46 @@ returns-clause-complete g c = let f = c.finish.ensures.finishes in
 
 pub returns-clause-loaded : goal.returns-clause-loaded
 returns-clause-loaded g c = let f = c.finish.ensures.finishes in λ e.
-    let P : Journal → List Run → Type 0 = λ journal runs. HasRun c.args.sizes (command_of (map string_bytes c.args.words.now)) (g.S.Source.left c.args.source.now)
-    (g.S.Source.left c.prepare-prepared.new.source) journal runs in
-    let row = ran_row _ _ _ _ _ f.written c.prepare-prepared.ensures.prepares (subst HasRuns f.status_is e) in
-    subst (λ (runs : List Run). P c.finish.result.journal runs) (sym f.runs_are)
-    (subst (λ (journal : Journal). P journal (final_runs c.prepare-prepared.result f.written)) (sym f.journal_is) row)
+    let P : Journal → List Run → Option Table → Type 0 = λ journal runs ops. Under ops (HasRun c.args.sizes (command_of (map string_bytes c.args.words.now)) (g.S.Source.left c.args.source.now)
+    (g.S.Source.left c.prepare-prepared.new.source) journal runs) in
+    of_outcome P _ _ _ _ _ _ f.journal_is f.runs_are f.operators_are (ran_row _ _ _ _ _ f.written c.prepare-prepared.ensures.prepares (subst HasRuns f.status_is e))
 
 pub returns-clause-runs : goal.returns-clause-runs
 returns-clause-runs g c = let f = c.finish.ensures.finishes in λ e.
-    let P : Journal → List Run → Type 0 = λ journal runs. IfSome (g.S.Source.left c.args.source.now) (λ text. IfSome (command_of (map string_bytes c.args.words.now))
+    let P : Journal → List Run → Option Table → Type 0 = λ journal runs ops. IfSome (g.S.Source.left c.args.source.now) (λ text. IfSome (command_of (map string_bytes c.args.words.now))
     (λ command. AreRunsOf c.args.sizes text command journal runs)) in
-    let row = runs_told _ _ _ _ _ _ (ran_row _ _ _ _ _ f.written c.prepare-prepared.ensures.prepares (subst HasRuns f.status_is e)) in
-    subst (λ (runs : List Run). P c.finish.result.journal runs) (sym f.runs_are)
-    (subst (λ (journal : Journal). P journal (final_runs c.prepare-prepared.result f.written)) (sym f.journal_is) row)
+    of_outcome P _ _ _ _ _ _ f.journal_is f.runs_are f.operators_are
+    (runs_told _ _ _ _ _ _ _ (ran_row _ _ _ _ _ f.written c.prepare-prepared.ensures.prepares (subst HasRuns f.status_is e)))
 
 pub returns-clause-loaded_in_part : goal.returns-clause-loaded_in_part
 returns-clause-loaded_in_part g c = let f = c.finish.ensures.finishes in λ e.
-    let P : Journal → List Run → Type 0 = λ journal runs. HasRefused c.args.sizes (command_of (map string_bytes c.args.words.now)) (g.S.Source.left c.args.source.now) (g.S.Source.left c.prepare-prepared.new.source) journal runs
-    (Rose (g.K.Sink.faults c.args.sink.now) (g.K.Sink.faults c.finish.new.sink)) (g.K.Sink.written c.args.sink.now) (g.K.Sink.written c.finish.new.sink) in
-    let row = in_part_row _ _ _ _ _ _ _ _ f.written c.prepare-prepared.ensures.prepares f.prefix f.whole f.cut (sym f.status_is ∙ e) in
-    subst (λ (runs : List Run). P c.finish.result.journal runs) (sym f.runs_are)
-    (subst (λ (journal : Journal). P journal (final_runs c.prepare-prepared.result f.written)) (sym f.journal_is) row)
+    let P : Journal → List Run → Option Table → Type 0 = λ journal runs ops. Under ops (HasRefused c.args.sizes (command_of (map string_bytes c.args.words.now)) (g.S.Source.left c.args.source.now)
+    (g.S.Source.left c.prepare-prepared.new.source) journal runs
+    (Rose (g.K.Sink.faults c.args.sink.now) (g.K.Sink.faults c.finish.new.sink)) (g.K.Sink.written c.args.sink.now) (g.K.Sink.written c.finish.new.sink)) in
+    of_outcome P _ _ _ _ _ _ f.journal_is f.runs_are f.operators_are
+    (in_part_row _ _ _ _ _ _ _ _ f.written c.prepare-prepared.ensures.prepares f.prefix f.whole f.cut (sym f.status_is ∙ e))
+
+pub returns-clause-operators : goal.returns-clause-operators
+returns-clause-operators g c = let f = c.finish.ensures.finishes in λ e.
+    subst (λ (o : Option Table). IfSome (g.S.Source.left c.args.source.now) (λ text. o ≡ Some (operators_of text))) (sym f.operators_are)
+    (operators_row _ _ _ _ _ f.written c.prepare-prepared.ensures.prepares (subst IsLoaded f.status_is e))
 
 pub returns-clause-output : goal.returns-clause-output
 returns-clause-output g c = let f = c.finish.ensures.finishes in λ e.
-    let P : Journal → List Run → Type 0 = λ journal runs. HasWritten c.args.sizes (command_of (map string_bytes c.args.words.now)) (g.S.Source.left c.args.source.now)
-    (g.S.Source.left c.prepare-prepared.new.source) journal runs (λ output. Appends (g.K.Sink.written c.args.sink.now) (g.K.Sink.written c.finish.new.sink) output) in
-    let row = output_row _ _ _ _ _ _ _ f.written c.prepare-prepared.ensures.prepares f.whole (subst IsRun f.status_is e) in
-    subst (λ (runs : List Run). P c.finish.result.journal runs) (sym f.runs_are)
-    (subst (λ (journal : Journal). P journal (final_runs c.prepare-prepared.result f.written)) (sym f.journal_is) row)
+    let P : Journal → List Run → Option Table → Type 0 = λ journal runs ops. Under ops (λ t. Appends (g.K.Sink.written c.args.sink.now) (g.K.Sink.written c.finish.new.sink) (output_of t runs)) in
+    of_outcome P _ _ _ _ _ _ f.journal_is f.runs_are f.operators_are (output_row _ _ _ f.written f.whole (subst IsRun f.status_is e))
 
 pub returns-clause-output_cut : goal.returns-clause-output_cut
 returns-clause-output_cut g c = let f = c.finish.ensures.finishes in λ e.
-    let P : Journal → List Run → Type 0 = λ journal runs. HasWritten c.args.sizes (command_of (map string_bytes c.args.words.now)) (g.S.Source.left c.args.source.now)
-    (g.S.Source.left c.prepare-prepared.new.source) journal runs (λ output. AppendsPrefix (g.K.Sink.written c.args.sink.now) (g.K.Sink.written c.finish.new.sink) output) in
-    let row = output_cut_row _ _ _ _ _ _ _ f.written c.prepare-prepared.ensures.prepares f.prefix (sym f.status_is ∙ e) in
-    subst (λ (runs : List Run). P c.finish.result.journal runs) (sym f.runs_are)
-    (subst (λ (journal : Journal). P journal (final_runs c.prepare-prepared.result f.written)) (sym f.journal_is) row)
+    let P : Journal → List Run → Option Table → Type 0 = λ journal runs ops. Under ops (λ t. AppendsPrefix (g.K.Sink.written c.args.sink.now) (g.K.Sink.written c.finish.new.sink) (output_of t runs)) in
+    of_outcome P _ _ _ _ _ _ f.journal_is f.runs_are f.operators_are (output_cut_row _ _ _ f.written f.prefix (sym f.status_is ∙ e))
 
 pub returns-clause-output_told : goal.returns-clause-output_told
 returns-clause-output_told g c = let f = c.finish.ensures.finishes in λ e.
     let P : List Run → Type 0 = λ runs. IfSome (g.S.Source.left c.args.source.now) (λ text. Appends (g.K.Sink.written c.args.sink.now) (g.K.Sink.written c.finish.new.sink) (output_of (operators_of text) runs)) in
+    let k = subst IsRun f.status_is e in
     subst P (sym f.runs_are)
-    (output_told_row _ _ _ _ _ _ _ _ (output_row _ _ _ _ _ _ _ f.written c.prepare-prepared.ensures.prepares f.whole (subst IsRun f.status_is e)))
+    (output_told_row _ _ _ _ _ (output_row _ _ _ f.written f.whole k) (operators_row _ _ _ _ _ f.written c.prepare-prepared.ensures.prepares (inl (inl k))))
 
 pub returns-clause-refusal_text : goal.returns-clause-refusal_text
 returns-clause-refusal_text g c = let f = c.finish.ensures.finishes in λ e.
@@ -112,7 +110,7 @@ returns-clause-refusal_text g c = let f = c.finish.ensures.finishes in λ e.
     Gains (Rose (g.K.Sink.faults c.args.sink.now) (g.K.Sink.faults c.finish.new.sink)) (g.K.Sink.written c.args.sink.now) (g.K.Sink.written c.finish.new.sink)
     (load_text (operators_of text) runs ++ refusal_text refusal))) in
     subst P (sym f.runs_are)
-    (refusal_told_row _ _ _ _ _ _ _ _ _ (in_part_row _ _ _ _ _ _ _ _ f.written c.prepare-prepared.ensures.prepares f.prefix f.whole f.cut (sym f.status_is ∙ e)))
+    (refusal_told_row _ _ _ _ _ _ _ _ _ _ (in_part_row _ _ _ _ _ _ _ _ f.written c.prepare-prepared.ensures.prepares f.prefix f.whole f.cut (sym f.status_is ∙ e)))
 
 pub returns-clause-legal : goal.returns-clause-legal
 returns-clause-legal g c = let f = c.finish.ensures.finishes in λ e.
@@ -130,7 +128,10 @@ pub returns-clause-empty_journal : goal.returns-clause-empty_journal
 returns-clause-empty_journal g c = let f = c.finish.ensures.finishes in λ e. f.journal_is ∙ (empty_row _ f.written (subst IsEmpty f.status_is e)).0
 
 pub returns-clause-empty_runs : goal.returns-clause-empty_runs
-returns-clause-empty_runs g c = let f = c.finish.ensures.finishes in λ e. f.runs_are ∙ (empty_row _ f.written (subst IsEmpty f.status_is e)).1
+returns-clause-empty_runs g c = let f = c.finish.ensures.finishes in λ e. f.runs_are ∙ (empty_row _ f.written (subst IsEmpty f.status_is e)).1.0
+
+pub returns-clause-no_operators : goal.returns-clause-no_operators
+returns-clause-no_operators g c = let f = c.finish.ensures.finishes in λ e. f.operators_are ∙ (empty_row _ f.written (subst IsEmpty f.status_is e)).1.1
 
 pub returns-clause-bad_words_text : goal.returns-clause-bad_words_text
 returns-clause-bad_words_text g c = let f = c.finish.ensures.finishes in λ e.

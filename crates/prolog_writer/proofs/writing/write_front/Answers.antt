@@ -3,7 +3,7 @@ use Rattle.prolog_terms.specs.declared.node.Node.{Node}
 use Rattle.prolog_terms.specs.Flat.{nodes as nodes_of}
 use Rattle.prolog_writer.specs.declared.shape.Place.TheVariants.{Within}
 use Rattle.prolog_writer.specs.Spaces.{Writing, all_added, no_piece_yet}
-use Rattle.prolog_writer.specs.Pieces.{pieces}
+use Rattle.prolog_writer.specs.Pieces.{pieces, written}
 use Rattle.prolog_writer.specs.Frames.{Walk, walk}
 use Rattle.prolog_writer.proofs.Joined.{all_added-text}
 use Rattle.prolog_writer.proofs.Walks.{walk_front}
@@ -30,3 +30,8 @@ returns-clause-count c t rest h e =
     let left : length (drop c.in_ok-count.count c.args.nodes.now) ≡ length rest = ap (length {A = Node}) (c.in_ok-count.ensures.left ∙ ap (λ (x : Walk). x.left) walked) in
     let whole : length c.args.nodes.now ≡ length (nodes_of t) + length rest = ap (length {A = Node}) e ∙ length-append (nodes_of t) rest in
     omega (arith, left, whole, length-drop c.in_ok-count.count c.args.nodes.now, c.in_ok-count.ensures.within)
+
+pub returns-clause-read_again : goal.returns-clause-read_again
+returns-clause-read_again c t rest h w e quotes =
+    let o = c.args.ops.now in
+    (written o c.args.style c.args.max t, returns-clause-text c t rest h e, c.written_is_read_again.ensures o c.args.style c.args.max t c.known.ensures.table quotes h w)

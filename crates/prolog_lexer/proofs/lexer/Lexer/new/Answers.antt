@@ -4,4 +4,4 @@ use Rattle.prolog_lexer.proofs.lexer.Lexer.new.Goals as goal
 
 pub returns-clause-cases : goal.returns-clause-cases
 unfolding ahead
-returns-clause-cases c = tokens_had c.args.text.now
+returns-clause-cases c = tokens_had 0 1 c.args.text.now

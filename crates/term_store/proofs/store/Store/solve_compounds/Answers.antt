@@ -4,7 +4,7 @@ use Rattle.term_store.specs.declared.cell.Cell.TheVariants.{Compound}
 use Rattle.term_store.specs.declared.solve.Pair.{Pair}
 use Rattle.term_store.specs.Terms.{row_at}
 use Rattle.term_store.specs.Work.{IsStep, pairs_of}
-use Rattle.term_store.proofs.WorkSteps.{step-compounds, clash-name, clash-arity}
+use Rattle.term_store.proofs.WorkSteps.{step-delete, step-compounds, clash-name, clash-arity}
 use Rattle.term_store.proofs.store.Store.solve_compounds.Goals as goal
 use Rattle.term_store.proofs.store.Store.solve_compounds.Goals.{After-row-right_name}
 
@@ -19,6 +19,9 @@ left c = ap (λ (row : ℕ × List Cell). row.1) c.row-left_name.ensures
 
 right : (c : After-row-right_name) → (row_at c.args.self.now.compounds c.args.j).1 ≡ c.row-right_name.result.1.now
 right c = ap (λ (row : ℕ × List Cell). row.1) c.row-right_name.ensures
+
+pub returns-then-i-j : goal.returns-then-i-j
+returns-then-i-j c = record { outcome = step-delete c.args.self.now (Compound c.args.i) (Compound c.args.j) (ap Compound c.if-i-j.true) c.args.work.now.items }
 
 pub returns-then-left_name-right_name : goal.returns-then-left_name-right_name
 returns-then-left_name-right_name c =

@@ -1,7 +1,7 @@
-// Worked rows.
+// Worked rows of the text of runs.
 
-use crate::texts::output;
 use journal_base::Tally;
+use prolog_session::output;
 use prolog_terms::{Name, Node, Ops, Shown, ShownVariables, Term, Want, Whole};
 use std::alloc::Global;
 use std::test::Fail;

@@ -2,15 +2,11 @@
 
 ghost use Rattle.std.specs.Prelude.{◌<◌, ◌≤◌, ◌^◌};
 
-use crate::load::load_text;
-use crate::reading::MAX_TEXT;
-use crate::run::run_command;
-use crate::session::top;
-use crate::texts::output;
-use crate::words::read_command;
-use crate::{MemorySink, MemorySource, Sink, Source, SteadySink, SteadySource};
 use journal_base::{Gate, OpenGate, Sizes};
-use prolog_terms::{Ops, Want};
+use prolog_session::{
+    MAX_TEXT, MemorySink, MemorySource, Sink, Source, SteadySink, SteadySource, top,
+};
+use prolog_terms::Want;
 use std::alloc::Global;
 use std::process::Abort;
 use std::sync::Wait;
@@ -1839,13 +1835,13 @@ impl Gate for CountingGate {
     }
 }
 
-/// How often the program passes its gate over this text and these words, and the engine that passed last.
+/// How often the program passes its gate over this text and these words, and the engine and the look that passed last.
 fn passes_of<R: Threads + Wait + Sync>(
     rt: &R,
     alloc: Global,
     text: &[u8],
-    word: &[&str],
-) -> Result<(u64, u32), Want> {
+    words: &[&str],
+) -> Result<(u64, u32, u64), Want> {
     let gate = CountingGate {
         passes: AtomicU64::new(0),
         engine: AtomicU32::new(9),
@@ -1853,78 +1849,57 @@ fn passes_of<R: Threads + Wait + Sync>(
     };
     let mut source = SteadySource::new(Vec::from_slice(alloc, text)?, 7);
     let mut sink = SteadySink::new(alloc, 100)?;
-    let mut words = Vec::new(alloc);
-    for word in word {
-        words.push(String::from_str(alloc, word)?)?;
+    let mut strings = Vec::new(alloc);
+    for word in words {
+        strings.push(String::from_str(alloc, word)?)?;
     }
-    let _outcome = top(rt, alloc, &words, SIZES, &mut source, &mut sink, &gate);
+    let _outcome = top(rt, alloc, &strings, SIZES, &mut source, &mut sink, &gate);
     Ok((
         gate.passes.load(Ordering::SeqCst),
         gate.engine.load(Ordering::SeqCst),
+        gate.look.load(Ordering::SeqCst),
     ))
 }
 
 #[test]
-fn the_program_passes_its_gate(rt: HostRuntime) {
-    let text = b"p(a).\np(b).\n:- p(b).\n".as_slice();
-    assert_eq!(rt; passes_of(&rt, rt.alloc(), text, &[]), Ok((1, 0)));
-    assert_eq!(rt; passes_of(&rt, rt.alloc(), text, &["p(a)"]), Ok((2, 1)));
+fn each_look_passes_the_gate(rt: HostRuntime) {
+    let twice = b"p(a). p(a).".as_slice();
+    let load = b"p(a).\np(b).\n:- p(b).\n".as_slice();
+    for (text, words, passes) in [
+        (twice, ["p(a)"].as_slice(), (1, 1, 1)),
+        (twice, &["p(b)"], (1, 1, 1)),
+        (twice, &["true"], (0, 9, 0)),
+        (twice, &["p(a), p(a)"], (3, 1, 3)),
+        (load, &[], (1, 0, 1)),
+        (load, &["p(a)"], (2, 1, 1)),
+    ] {
+        assert_eq!(rt; passes_of(&rt, rt.alloc(), text, words), Ok(passes));
+    }
 }
 
-/// The text of the run of this word over two equal facts, in so many steps at most.
-fn run_within<R: Wait, G: Gate>(
-    rt: &R,
-    alloc: Global,
-    gate: &G,
-    word: &str,
-    steps: &str,
-) -> Result<Vec<u8>, Want> {
-    let ops = Ops::initial(alloc)?;
-    let mut words = Vec::new(alloc);
-    for word in ["--steps", steps, word] {
-        words.push(String::from_str(alloc, word)?)?;
-    }
-    let command = match read_command(alloc, &ops, &words)? {
-        Some(command) => command,
-        None => return Err(Want),
-    };
-    let load = load_text(rt, alloc, gate, command.steps, SIZES, b"p(a). p(a).")?;
-    let ran = run_command(rt, alloc, gate, command, load)?;
-    output(alloc, &ran.ops, ran.runs.items())
-}
+// The budgets of a goal with two answers.
+const BUDGETS: [Row; 3] = [
+    (
+        "p(a). p(a).",
+        &["--steps", "1", "p(a)"],
+        7,
+        "% goal 1\ntrue ;\nstopped after 1 steps.\n",
+    ),
+    (
+        "p(a). p(a).",
+        &["--steps", "2", "p(a)"],
+        0,
+        "% goal 1\ntrue ;\ntrue.\n",
+    ),
+    (
+        "p(a). p(a).",
+        &["--steps", "003", "p(a)"],
+        0,
+        "% goal 1\ntrue ;\ntrue.\n",
+    ),
+];
 
 #[test]
 fn a_run_spends_its_budget(rt: HostRuntime) {
-    for (steps, text) in [
-        ("1", "% goal 1\ntrue ;\nstopped after 1 steps.\n"),
-        ("2", "% goal 1\ntrue ;\ntrue.\n"),
-        ("003", "% goal 1\ntrue ;\ntrue.\n"),
-    ] {
-        let written = run_within(&rt, rt.alloc(), &OpenGate, "p(a)", steps);
-        assert!(rt;
-            matches!(&written, Ok(bytes) if bytes.as_slice() == text.as_bytes()),
-            "{steps} steps"
-        );
-    }
-}
-
-#[test]
-fn a_look_passes_the_gate(rt: HostRuntime) {
-    for (word, passes, engine) in [
-        ("p(a)", 1, 1),
-        ("p(b)", 1, 1),
-        ("true", 0, 0),
-        ("p(a), p(a)", 3, 1),
-    ] {
-        let gate = CountingGate {
-            passes: AtomicU64::new(0),
-            engine: AtomicU32::new(0),
-            look: AtomicU64::new(0),
-        };
-        let written = run_within(&rt, rt.alloc(), &gate, word, "10");
-        assert!(rt; written.is_ok());
-        assert_eq!(rt; gate.passes.load(Ordering::SeqCst), passes, "{word}");
-        assert_eq!(rt; gate.look.load(Ordering::SeqCst), passes, "{word}");
-        assert_eq!(rt; gate.engine.load(Ordering::SeqCst), engine, "{word}");
-    }
+    expect_rows(&rt, rt.alloc(), &BUDGETS);
 }

@@ -2,7 +2,7 @@ use Rattle.std.proofs.Common.{◌≤◌, length, drop}
 use Rattle.prolog_terms.specs.Substitutions.{all_substituted}
 use Rattle.prolog_terms.specs.Flat.{forest}
 use Rattle.term_store.specs.Puts.{shifted, Grows, AreCells}
-use Rattle.term_store.proofs.store.Store.put.Given as goal
+use Rattle.term_store.proofs.store.Store.put_nodes.Given as goal
 
 abbrev pub invariant-loop-at : goal.invariant-loop-at
 invariant-loop-at l = record {

@@ -1,0 +1,20 @@
+-- What the quotients leave, which says what they are.
+use Rattle.std.specs.Prelude.{◌≡◌, ◌≢◌, ℕ, suc, ◌<◌, ℤ, pos, negsuc, ◌-ℤ◌, neg_ℤ, ◌≤ℤ◌, ◌<ℤ◌, unsigned_abs, FitsSigned}
+use Rattle.std.specs.Int.{w64}
+use Rattle.prolog_arith.specs.Operations.{remainder, modulo}
+use Rattle.prolog_arith.specs.declared.operation.Unary.TheVariants.{Complement}
+use Rattle.prolog_arith.specs.Arithmetic.{unary}
+
+-- `//` is toward zero: what is left has the sign of the dividend, and is smaller than the divisor
+pub record RemainderIsSmall : Type 0 where
+  pub up : (n : ℕ) (b : ℤ) → b ≢ pos 0 → (pos 0 ≤ℤ remainder (pos n) b) × (unsigned_abs (remainder (pos n) b) < unsigned_abs b)
+  pub down : (n : ℕ) (b : ℤ) → b ≢ pos 0 → (remainder (negsuc n) b ≤ℤ pos 0) × (unsigned_abs (remainder (negsuc n) b) < unsigned_abs b)
+
+-- the floor of a / b is the one integer whose product with b leaves something from 0 on to b
+pub record ModuloIsSmall : Type 0 where
+  pub up : (a : ℤ) (m : ℕ) → (pos 0 ≤ℤ modulo a (pos (suc m))) × (modulo a (pos (suc m)) <ℤ pos (suc m))
+  pub down : (a : ℤ) (m : ℕ) → (negsuc m <ℤ modulo a (negsuc m)) × (modulo a (negsuc m) ≤ℤ pos 0)
+
+-- each bit turned
+abbrev pub ComplementIsOpposite : Type 0
+ComplementIsOpposite = (a : ℤ) → FitsSigned w64 a → unary Complement a ≡ neg_ℤ a -ℤ pos 1

@@ -1,0 +1,5 @@
+pub mod Operations
+pub mod Arithmetic
+pub mod Work
+pub mod Laws
+pub mod Rows

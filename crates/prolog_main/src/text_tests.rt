@@ -4,10 +4,10 @@ use journal_base::Tally;
 use prolog_session::output;
 use prolog_terms::{Name, Node, Ops, Shown, ShownVariables, Term, Want, Whole};
 use std::alloc::Global;
-use std::test::Fail;
+use std::process::Abort;
 use wam_machine::{Event, Events, Fronts, Run, RunEnd};
 
-// A node, in a table.
+/// A node, in a table.
 #[derive(Clone, Copy)]
 enum Piece {
     Var(u64),
@@ -16,13 +16,29 @@ enum Piece {
     Functor(&'static str, u32),
 }
 
+/// How a run ends, in a table.
+#[derive(Clone, Copy)]
+enum End {
+    Exhausted,
+    Ball(&'static [Piece]),
+    Spent(u64),
+    Halted(Whole),
+    Want,
+}
+
+/// An answer, in a table: the list of the shown variables' values, and whether an alternative is left.
+type AnswerRow = (&'static [Piece], bool);
+
+/// A run, in a table: its line in the load, or 0 for a goal; the names of its shown variables; its answers; its end.
+type RunRow = (u64, &'static [&'static str], &'static [AnswerRow], End);
+
 fn node_of(alloc: Global, piece: Piece) -> Result<Node, Want> {
-    Ok(match piece {
-        Piece::Var(number) => Node::Var(number),
-        Piece::Int(whole) => Node::Int(whole),
-        Piece::Atom(name) => Node::Atom(Name::of(alloc, name.as_bytes())?),
-        Piece::Functor(name, arity) => Node::Functor(Name::of(alloc, name.as_bytes())?, arity),
-    })
+    match piece {
+        Piece::Var(number) => Ok(Node::Var(number)),
+        Piece::Int(whole) => Ok(Node::Int(whole)),
+        Piece::Atom(name) => Ok(Node::Atom(Name::of(alloc, name.as_bytes())?)),
+        Piece::Functor(name, arity) => Ok(Node::Functor(Name::of(alloc, name.as_bytes())?, arity)),
+    }
 }
 
 fn term_of(alloc: Global, pieces: &[Piece]) -> Result<Term, Want> {
@@ -33,27 +49,17 @@ fn term_of(alloc: Global, pieces: &[Piece]) -> Result<Term, Want> {
     Term::of_nodes(nodes).map_err(|_| Want)
 }
 
-// An answer with these values, which a list ends.
-fn answer(alloc: Global, values: &[Piece], left: bool) -> Result<Event, Want> {
-    Ok(Event::Answer {
-        values: term_of(alloc, values)?,
-        left,
-    })
-}
-
-const NO_VALUES: [Piece; 1] = [Piece::Atom("[]")];
-
-// Answers that show no variable.
-fn plain_answers(alloc: Global, lefts: &[bool]) -> Result<Vec<Event>, Want> {
-    let mut events = Vec::new(alloc);
-    for left in lefts {
-        events.push(answer(alloc, &NO_VALUES, *left)?)?;
+fn end_of(alloc: Global, end: End) -> Result<RunEnd, Want> {
+    match end {
+        End::Exhausted => Ok(RunEnd::Exhausted),
+        End::Ball(pieces) => Ok(RunEnd::Ball(term_of(alloc, pieces)?)),
+        End::Spent(steps) => Ok(RunEnd::Spent(steps)),
+        End::Halted(code) => Ok(RunEnd::Halted(code)),
+        End::Want => Ok(RunEnd::Want),
     }
-    Ok(events)
 }
 
-// A run of a goal in which these variables are shown.
-fn run_with(alloc: Global, names: &[&str], events: Vec<Event>, end: RunEnd) -> Result<Run, Want> {
+fn shown_of(alloc: Global, names: &[&str]) -> Result<Vec<Shown>, Want> {
     let mut shown = Vec::new(alloc);
     for name in names {
         shown.push(Shown {
@@ -61,9 +67,31 @@ fn run_with(alloc: Global, names: &[&str], events: Vec<Event>, end: RunEnd) -> R
             var: 0,
         })?;
     }
+    Ok(shown)
+}
+
+fn answer_of(alloc: Global, row: &AnswerRow) -> Result<Event, Want> {
+    Ok(Event::Answer {
+        values: term_of(alloc, row.0)?,
+        left: row.1,
+    })
+}
+
+fn events_of(alloc: Global, rows: &[AnswerRow]) -> Result<Vec<Event>, Want> {
+    let mut events = Vec::new(alloc);
+    for row in rows {
+        events.push(answer_of(alloc, row)?)?;
+    }
+    Ok(events)
+}
+
+fn run_of(alloc: Global, row: &RunRow) -> Result<Run, Want> {
+    let shown = shown_of(alloc, row.1)?;
+    let events = events_of(alloc, row.2)?;
+    let end = end_of(alloc, row.3)?;
     Ok(Run {
-        engine: 1,
-        line: 0,
+        engine: if row.0 == 0 { 1 } else { 0 },
+        line: row.0,
         shown: ShownVariables::from_vec(shown),
         transcript: Events::of(events),
         fronts: Fronts::of(Vec::new(alloc)),
@@ -73,155 +101,184 @@ fn run_with(alloc: Global, names: &[&str], events: Vec<Event>, end: RunEnd) -> R
     })
 }
 
-fn run_of(alloc: Global, lefts: &[bool], end: RunEnd) -> Result<Run, Want> {
-    run_with(alloc, &[], plain_answers(alloc, lefts)?, end)
-}
-
-// The run that shows X with this value.
-fn run_with_value(alloc: Global, value: &[Piece]) -> Result<Run, Want> {
-    let mut values = Vec::new(alloc);
-    values.push(Piece::Functor(".", 2))?;
-    values.extend_from_slice(value)?;
-    values.push(Piece::Atom("[]"))?;
-    let mut events = Vec::new(alloc);
-    events.push(answer(alloc, &values, false)?)?;
-    run_with(alloc, &["X"], events, RunEnd::Exhausted)
-}
-
-#[test]
-fn writes_deep_values(rt: HostRuntime) -> Result<(), Fail> {
-    let alloc = rt.alloc();
-    let ops = Ops::initial(alloc)?;
-    let mut value = Vec::new(alloc);
-    let mut words = Vec::from_slice(alloc, b"% goal 1\nX = ".as_slice())?;
-    for _ in 0..100_000 {
-        value.push(Piece::Functor("f", 1))?;
-        words.extend_from_slice(b"f(")?;
-    }
-    value.push(Piece::Var(0))?;
-    words.extend_from_slice(b"_1")?;
-    for _ in 0..100_000 {
-        words.push(b')')?;
-    }
-    words.extend_from_slice(b".\n")?;
+fn runs_of(alloc: Global, rows: &[RunRow]) -> Result<Vec<Run>, Want> {
     let mut runs = Vec::new(alloc);
-    runs.push(run_with_value(alloc, &value)?)?;
-    let text = output(alloc, &ops, &runs)?;
-    assert!(rt; text.as_slice() == words.as_slice());
-    Ok(())
+    for row in rows {
+        runs.push(run_of(alloc, row)?)?;
+    }
+    Ok(runs)
 }
 
-#[test]
-fn writes_runs(rt: HostRuntime) -> Result<(), Fail> {
-    let alloc = rt.alloc();
+/// The text of these runs under the operators that there are from the start.
+fn text_of(alloc: Global, runs: &[Run]) -> Result<Vec<u8>, Want> {
     let ops = Ops::initial(alloc)?;
-    let ball = term_of(alloc, &[Piece::Functor("oops", 1), Piece::Var(1)])?;
-    let none: [bool; 0] = [];
-    let mut runs = Vec::new(alloc);
-    assert_eq!(rt; output(alloc, &ops, &runs)?.len(), 0);
-    runs.push(run_of(alloc, &none, RunEnd::Exhausted)?)?;
-    runs.push(run_of(alloc, &[true, false], RunEnd::Exhausted)?)?;
-    runs.push(run_of(alloc, &[true, true], RunEnd::Exhausted)?)?;
-    runs.push(run_of(alloc, &[true], RunEnd::Ball(ball))?)?;
-    runs.push(run_of(alloc, &none, RunEnd::Spent(7))?)?;
-    runs.push(run_of(alloc, &[true], RunEnd::Halted(-2))?)?;
-    runs.push(run_of(alloc, &[false], RunEnd::Want)?)?;
-    let text = output(alloc, &ops, &runs)?;
-    let words = "% goal 1\nfalse.\n\
-        % goal 2\ntrue ;\ntrue.\n\
-        % goal 3\ntrue ;\ntrue ;\nfalse.\n\
-        % goal 4\ntrue ;\nerror: oops(_2).\n\
-        % goal 5\nstopped after 7 steps.\n\
-        % goal 6\ntrue ;\nhalted with -2.\n\
-        % goal 7\ntrue.\n";
-    assert!(rt; text.as_slice() == words.as_bytes());
-    Ok(())
+    output(alloc, &ops, runs)
 }
 
-const FIRST_VALUES: [Piece; 8] = [
-    Piece::Functor(".", 2),
-    Piece::Functor("f", 1),
-    Piece::Var(0),
-    Piece::Functor(".", 2),
-    Piece::Functor(".", 2),
-    Piece::Var(0),
-    Piece::Var(1),
-    Piece::Atom("[]"),
+/// Whether these runs have this text.
+fn have_text(alloc: Global, rows: &[RunRow], text: &[u8]) -> Result<bool, Want> {
+    let runs = runs_of(alloc, rows)?;
+    let found = text_of(alloc, runs.as_slice())?;
+    Ok(found.as_slice() == text)
+}
+
+const NO_VALUES: &[Piece] = &[Piece::Atom("[]")];
+
+const LAST: &[AnswerRow] = &[(NO_VALUES, false)];
+
+const OPEN: &[AnswerRow] = &[(NO_VALUES, true)];
+
+const TWO: &[AnswerRow] = &[(NO_VALUES, true), (NO_VALUES, false)];
+
+const TWO_OPEN: &[AnswerRow] = &[(NO_VALUES, true), (NO_VALUES, true)];
+
+const OOPS: End = End::Ball(&[Piece::Functor("oops", 1), Piece::Var(1)]);
+
+const VALUES: &[AnswerRow] = &[
+    (
+        &[
+            Piece::Functor(".", 2),
+            Piece::Functor("f", 1),
+            Piece::Var(0),
+            Piece::Functor(".", 2),
+            Piece::Functor(".", 2),
+            Piece::Var(0),
+            Piece::Var(1),
+            Piece::Atom("[]"),
+        ],
+        true,
+    ),
+    (
+        &[
+            Piece::Functor(".", 2),
+            Piece::Atom("a b"),
+            Piece::Functor(".", 2),
+            Piece::Int(-7),
+            Piece::Atom("[]"),
+        ],
+        false,
+    ),
 ];
 
-const SECOND_VALUES: [Piece; 5] = [
-    Piece::Functor(".", 2),
-    Piece::Atom("a b"),
-    Piece::Functor(".", 2),
-    Piece::Int(-7),
-    Piece::Atom("[]"),
+/// Runs, and their text.
+type TextRow = (&'static [RunRow], &'static str);
+
+const TEXTS: [TextRow; 5] = [
+    (&[], ""),
+    (
+        &[
+            (0, &[], &[], End::Exhausted),
+            (0, &[], TWO, End::Exhausted),
+            (0, &[], TWO_OPEN, End::Exhausted),
+            (0, &[], OPEN, OOPS),
+            (0, &[], &[], End::Spent(7)),
+            (0, &[], OPEN, End::Halted(-2)),
+            (0, &[], LAST, End::Want),
+        ],
+        "% goal 1\nfalse.\n\
+            % goal 2\ntrue ;\ntrue.\n\
+            % goal 3\ntrue ;\ntrue ;\nfalse.\n\
+            % goal 4\ntrue ;\nerror: oops(_2).\n\
+            % goal 5\nstopped after 7 steps.\n\
+            % goal 6\ntrue ;\nhalted with -2.\n\
+            % goal 7\ntrue.\n",
+    ),
+    (
+        &[(0, &["X", "Tail"], VALUES, End::Exhausted)],
+        "% goal 1\nX = f(_1), Tail = [_1|_2] ;\nX = 'a b', Tail = -7.\n",
+    ),
+    // no success of the load
+    (
+        &[
+            (1, &[], LAST, End::Exhausted),
+            (2, &[], &[], End::Exhausted),
+            (3, &[], OPEN, End::Exhausted),
+            (4, &[], OPEN, End::Spent(7)),
+            (5, &[], &[], End::Spent(8)),
+        ],
+        "% line 2: false.\n\
+            % line 4: stopped after 7 steps.\n\
+            % line 5: stopped after 8 steps.\n",
+    ),
+    // the load comes first
+    (
+        &[
+            (1, &[], &[], End::Ball(&[Piece::Int(-5)])),
+            (0, &[], &[], End::Exhausted),
+            (300, &[], &[], OOPS),
+            (0, &[], LAST, End::Exhausted),
+        ],
+        "% line 1: error: -5.\n\
+            % line 300: error: oops(_2).\n\
+            % goal 1\nfalse.\n\
+            % goal 2\ntrue.\n",
+    ),
 ];
 
+fn expect_texts<R: Abort>(rt: &R, alloc: Global) {
+    for row in &TEXTS {
+        assert_eq!(rt;
+            have_text(alloc, row.0, row.1.as_bytes()),
+            Ok(true),
+            "{}",
+            row.1
+        );
+    }
+}
+
 #[test]
-fn writes_answers(rt: HostRuntime) -> Result<(), Fail> {
-    let alloc = rt.alloc();
-    let ops = Ops::initial(alloc)?;
+fn writes_runs(rt: HostRuntime) {
+    expect_texts(&rt, rt.alloc());
+}
+
+const DEPTH: u32 = 100_000;
+
+/// The list of a value that is so many compounds deep.
+fn deep_values(alloc: Global) -> Result<Term, Want> {
+    let mut nodes = Vec::new(alloc);
+    nodes.push(node_of(alloc, Piece::Functor(".", 2))?)?;
+    for _ in 0..DEPTH {
+        nodes.push(node_of(alloc, Piece::Functor("f", 1))?)?;
+    }
+    nodes.push(Node::Var(0))?;
+    nodes.push(node_of(alloc, Piece::Atom("[]"))?)?;
+    Term::of_nodes(nodes).map_err(|_| Want)
+}
+
+fn deep_text(alloc: Global) -> Result<Vec<u8>, Want> {
+    let mut text = Vec::from_slice(alloc, b"% goal 1\nX = ".as_slice())?;
+    for _ in 0..DEPTH {
+        text.extend_from_slice(b"f(")?;
+    }
+    text.extend_from_slice(b"_1")?;
+    for _ in 0..DEPTH {
+        text.push(b')')?;
+    }
+    text.extend_from_slice(b".\n")?;
+    Ok(text)
+}
+
+fn deep_runs(alloc: Global) -> Result<Vec<Run>, Want> {
     let mut events = Vec::new(alloc);
-    events.push(answer(alloc, &FIRST_VALUES, true)?)?;
-    events.push(answer(alloc, &SECOND_VALUES, false)?)?;
+    events.push(Event::Answer {
+        values: deep_values(alloc)?,
+        left: false,
+    })?;
+    let mut run = run_of(alloc, &(0, &["X"], &[], End::Exhausted))?;
+    run.transcript = Events::of(events);
     let mut runs = Vec::new(alloc);
-    runs.push(run_with(alloc, &["X", "Tail"], events, RunEnd::Exhausted)?)?;
-    let text = output(alloc, &ops, &runs)?;
-    let words = "% goal 1\nX = f(_1), Tail = [_1|_2] ;\nX = 'a b', Tail = -7.\n";
-    assert!(rt; text.as_slice() == words.as_bytes());
-    Ok(())
+    runs.push(run)?;
+    Ok(runs)
 }
 
-// The run of a read-term of the load in this line.
-fn load_run_of(alloc: Global, line: u64, ball: Term) -> Result<Run, Want> {
-    let none: [bool; 0] = [];
-    Ok(in_load(run_of(alloc, &none, RunEnd::Ball(ball))?, line))
-}
-
-// The run as one of the load, in this line.
-fn in_load(run: Run, line: u64) -> Run {
-    let mut run = run;
-    run.engine = 0;
-    run.line = line;
-    run
+fn writes_deep(alloc: Global) -> Result<bool, Want> {
+    let runs = deep_runs(alloc)?;
+    let text = deep_text(alloc)?;
+    let found = text_of(alloc, runs.as_slice())?;
+    Ok(found.as_slice() == text.as_slice())
 }
 
 #[test]
-fn writes_no_success_of_the_load(rt: HostRuntime) -> Result<(), Fail> {
-    let alloc = rt.alloc();
-    let ops = Ops::initial(alloc)?;
-    let none: [bool; 0] = [];
-    let mut runs = Vec::new(alloc);
-    runs.push(in_load(run_of(alloc, &[false], RunEnd::Exhausted)?, 1))?;
-    runs.push(in_load(run_of(alloc, &none, RunEnd::Exhausted)?, 2))?;
-    runs.push(in_load(run_of(alloc, &[true], RunEnd::Exhausted)?, 3))?;
-    runs.push(in_load(run_of(alloc, &[true], RunEnd::Spent(7))?, 4))?;
-    runs.push(in_load(run_of(alloc, &none, RunEnd::Spent(8))?, 5))?;
-    let text = output(alloc, &ops, &runs)?;
-    let words = "% line 2: false.\n\
-        % line 4: stopped after 7 steps.\n\
-        % line 5: stopped after 8 steps.\n";
-    assert!(rt; text.as_slice() == words.as_bytes());
-    Ok(())
-}
-
-#[test]
-fn writes_the_load_first(rt: HostRuntime) -> Result<(), Fail> {
-    let alloc = rt.alloc();
-    let ops = Ops::initial(alloc)?;
-    let small = term_of(alloc, &[Piece::Int(-5)])?;
-    let nested = term_of(alloc, &[Piece::Functor("oops", 1), Piece::Var(1)])?;
-    let none: [bool; 0] = [];
-    let mut runs = Vec::new(alloc);
-    runs.push(load_run_of(alloc, 1, small)?)?;
-    runs.push(run_of(alloc, &none, RunEnd::Exhausted)?)?;
-    runs.push(load_run_of(alloc, 300, nested)?)?;
-    runs.push(run_of(alloc, &[false], RunEnd::Exhausted)?)?;
-    let text = output(alloc, &ops, &runs)?;
-    let words = "% line 1: error: -5.\n\
-        % line 300: error: oops(_2).\n\
-        % goal 1\nfalse.\n\
-        % goal 2\ntrue.\n";
-    assert!(rt; text.as_slice() == words.as_bytes());
-    Ok(())
+fn writes_deep_values(rt: HostRuntime) {
+    assert_eq!(rt; writes_deep(rt.alloc()), Ok(true));
 }

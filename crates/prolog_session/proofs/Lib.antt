@@ -12,3 +12,4 @@ pub mod Answered
 pub mod Rows
 pub mod Outcomes
 pub mod Under
+pub mod OthersAreCalled

@@ -7,6 +7,7 @@
 mod finish;
 mod goal_run;
 mod kept;
+mod law;
 mod load;
 mod memory;
 mod part;
@@ -27,6 +28,7 @@ mod words;
 mod writing;
 
 pub use finish::{Outcome, WANTED};
+pub use law::what_is_defined_is_called;
 pub use memory::{MemorySink, MemorySource};
 pub use prolog_terms::Want;
 pub use reading::{MAX_TEXT, Text, read_all};

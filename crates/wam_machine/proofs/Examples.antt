@@ -10,7 +10,8 @@ use Rattle.prolog_terms.specs.declared.fault.Fault.TheVariants.{Existence, Insta
 use Rattle.std.specs.Prelude.{codes, pos}
 use Rattle.term_unifier.specs.Unifier.{unifier}
 use Rattle.journal_base.specs.Keys.{keys, could_match}
-use Rattle.wam_machine.specs.Machine.{Setting, State, Report, Outcome, Goes, Ends, Unfit, Runs, ends, goes, move, beginning, Transcript}
+use Rattle.wam_machine.specs.Control.{plain}
+use Rattle.wam_machine.specs.Machine.{calling_builtin, Setting, State, Report, Outcome, Goes, Ends, Unfit, Runs, ends, goes, move, beginning, Transcript}
 use Rattle.wam_machine.specs.Rows.{Gives, Alone, HasRows, catches, throws, halts, halts_with, catch_three, throw_one, halt_one, a, a_cut, a_loop, a_rule, any_between, b, both, c, call, called, closed, copied_number, copies, cut, denied, equal, failure, is_free, is_one, is_two, list_of, mem, members, number, on, once, one, one_and_more, one_or_two, one_pair, opened, or, p, repeats, then, three_facts, trees, truth, uncallable, x}
 
 -- what a run gives within so many moves
@@ -51,383 +52,383 @@ gives n j budget goal shown fronts events steps end h =
     (λ r e. within (on j budget shown) n (beginning (on j budget shown) goal fronts) r e) h
 
 row_true_goal : Gives [] 100 truth [] [] (closed [] ∷ []) 1 Exhausted
-unfolding unifier keys could_match error_tree fault_tree
+unfolding unifier keys could_match error_tree fault_tree plain calling_builtin
 row_true_goal = gives 60 [] 100 truth [] [] (closed [] ∷ []) 1 Exhausted refl
 
 row_each_fact : Gives three_facts 100 (p x) (x ∷ []) (4 ∷ []) (opened (a ∷ []) ∷ opened (b ∷ []) ∷ closed (c ∷ []) ∷ []) 3 Exhausted
-unfolding unifier keys could_match error_tree fault_tree
+unfolding unifier keys could_match error_tree fault_tree plain calling_builtin
 row_each_fact = gives 60 three_facts 100 (p x) (x ∷ []) (4 ∷ []) (opened (a ∷ []) ∷ opened (b ∷ []) ∷ closed (c ∷ []) ∷ []) 3 Exhausted refl
 
 row_one_fact : Gives three_facts 100 (p b) [] (4 ∷ []) (closed [] ∷ []) 1 Exhausted
-unfolding unifier keys could_match error_tree fault_tree
+unfolding unifier keys could_match error_tree fault_tree plain calling_builtin
 row_one_fact = gives 60 three_facts 100 (p b) [] (4 ∷ []) (closed [] ∷ []) 1 Exhausted refl
 
 row_middle : Gives any_between 100 (one (codes "q") b) [] (4 ∷ []) (opened [] ∷ closed [] ∷ []) 2 Exhausted
-unfolding unifier keys could_match error_tree fault_tree
+unfolding unifier keys could_match error_tree fault_tree plain calling_builtin
 row_middle = gives 60 any_between 100 (one (codes "q") b) [] (4 ∷ []) (opened [] ∷ closed [] ∷ []) 2 Exhausted refl
 
 row_through_a_rule : Gives a_rule 100 (one (codes "g") x) (x ∷ []) (5 ∷ 5 ∷ []) (closed (b ∷ []) ∷ []) 5 Exhausted
-unfolding unifier keys could_match error_tree fault_tree
+unfolding unifier keys could_match error_tree fault_tree plain calling_builtin
 row_through_a_rule = gives 60 a_rule 100 (one (codes "g") x) (x ∷ []) (5 ∷ 5 ∷ []) (closed (b ∷ []) ∷ []) 5 Exhausted refl
 
 row_budget_spent : Gives a_loop 10 (atom (codes "loop")) [] (copied_number 10 2) [] 10 (Spent 10)
-unfolding unifier keys could_match error_tree fault_tree
+unfolding unifier keys could_match error_tree fault_tree plain calling_builtin
 row_budget_spent = gives 60 a_loop 10 (atom (codes "loop")) [] (copied_number 10 2) [] 10 (Spent 10) refl
 
 row_occurring : Alone (equal x (one (codes "f") x)) [] 1 Exhausted
-unfolding unifier keys could_match error_tree fault_tree
+unfolding unifier keys could_match error_tree fault_tree plain calling_builtin
 row_occurring = gives 60 [] 100 (equal x (one (codes "f") x)) (x ∷ []) [] [] 1 Exhausted refl
 
 row_two_free : Gives [] 100 (equal (variable 7) (variable 3)) (variable 7 ∷ variable 3 ∷ []) [] (closed (variable 0 ∷ variable 0 ∷ []) ∷ []) 1 Exhausted
-unfolding unifier keys could_match error_tree fault_tree
+unfolding unifier keys could_match error_tree fault_tree plain calling_builtin
 row_two_free = gives 60 [] 100 (equal (variable 7) (variable 3)) (variable 7 ∷ variable 3 ∷ []) [] (closed (variable 0 ∷ variable 0 ∷ []) ∷ []) 1 Exhausted refl
 
 row_undeclared : Gives [] 100 (one (codes "foo") a) [] (0 ∷ []) [] 1 (Ball (fault_tree (Existence (record { name = codes "foo"; arity = 1 })) (record { name = codes "foo"; arity = 1 })))
-unfolding unifier keys could_match error_tree fault_tree
+unfolding unifier keys could_match error_tree fault_tree plain calling_builtin
 row_undeclared = gives 60 [] 100 (one (codes "foo") a) [] (0 ∷ []) [] 1 (Ball (fault_tree (Existence (record { name = codes "foo"; arity = 1 })) (record { name = codes "foo"; arity = 1 }))) refl
 
 row_alternatives : Alone one_or_two (one_and_more ∷ is_two ∷ []) 4 Exhausted
-unfolding unifier keys could_match error_tree fault_tree
+unfolding unifier keys could_match error_tree fault_tree plain calling_builtin
 row_alternatives = gives 60 [] 100 one_or_two (x ∷ []) [] (one_and_more ∷ is_two ∷ []) 4 Exhausted refl
 
 row_failing : Alone failure [] 1 Exhausted
-unfolding unifier keys could_match error_tree fault_tree
+unfolding unifier keys could_match error_tree fault_tree plain calling_builtin
 row_failing = gives 60 [] 100 failure (x ∷ []) [] [] 1 Exhausted refl
 
 row_cut_after : Alone (both one_or_two cut) (is_one ∷ []) 3 Exhausted
-unfolding unifier keys could_match error_tree fault_tree
+unfolding unifier keys could_match error_tree fault_tree plain calling_builtin
 row_cut_after = gives 60 [] 100 (both one_or_two cut) (x ∷ []) [] (is_one ∷ []) 3 Exhausted refl
 
 row_cut_after_exactly : Gives [] 3 (both one_or_two cut) (x ∷ []) [] (is_one ∷ []) 3 Exhausted
-unfolding unifier keys could_match error_tree fault_tree
+unfolding unifier keys could_match error_tree fault_tree plain calling_builtin
 row_cut_after_exactly = gives 60 [] 3 (both one_or_two cut) (x ∷ []) [] (is_one ∷ []) 3 Exhausted refl
 
 row_cut_after_spent : Gives [] 2 (both one_or_two cut) (x ∷ []) [] [] 2 (Spent 2)
-unfolding unifier keys could_match error_tree fault_tree
+unfolding unifier keys could_match error_tree fault_tree plain calling_builtin
 row_cut_after_spent = gives 60 [] 2 (both one_or_two cut) (x ∷ []) [] [] 2 (Spent 2) refl
 
 row_cut_left : Alone (both one_or_two (or cut truth)) (is_one ∷ []) 4 Exhausted
-unfolding unifier keys could_match error_tree fault_tree
+unfolding unifier keys could_match error_tree fault_tree plain calling_builtin
 row_cut_left = gives 60 [] 100 (both one_or_two (or cut truth)) (x ∷ []) [] (is_one ∷ []) 4 Exhausted refl
 
 row_cut_right : Alone (both one_or_two (or failure cut)) (is_one ∷ []) 6 Exhausted
-unfolding unifier keys could_match error_tree fault_tree
+unfolding unifier keys could_match error_tree fault_tree plain calling_builtin
 row_cut_right = gives 60 [] 100 (both one_or_two (or failure cut)) (x ∷ []) [] (is_one ∷ []) 6 Exhausted refl
 
 row_cut_in_clause : Gives a_cut 100 (one (codes "c") x) (x ∷ []) (7 ∷ 7 ∷ []) (closed (a ∷ []) ∷ []) 3 Exhausted
-unfolding unifier keys could_match error_tree fault_tree
+unfolding unifier keys could_match error_tree fault_tree plain calling_builtin
 row_cut_in_clause = gives 60 a_cut 100 (one (codes "c") x) (x ∷ []) (7 ∷ 7 ∷ []) (closed (a ∷ []) ∷ []) 3 Exhausted refl
 
 row_cut_outside : Gives a_cut 100 (both one_or_two (one (codes "c") a)) (x ∷ []) (7 ∷ 7 ∷ 7 ∷ 7 ∷ []) (one_and_more ∷ is_two ∷ []) 10 Exhausted
-unfolding unifier keys could_match error_tree fault_tree
+unfolding unifier keys could_match error_tree fault_tree plain calling_builtin
 row_cut_outside = gives 60 a_cut 100 (both one_or_two (one (codes "c") a)) (x ∷ []) (7 ∷ 7 ∷ 7 ∷ 7 ∷ []) (one_and_more ∷ is_two ∷ []) 10 Exhausted refl
 
 row_cut_in_call : Alone (both one_or_two (call (cut ∷ []))) (one_and_more ∷ is_two ∷ []) 8 Exhausted
-unfolding unifier keys could_match error_tree fault_tree
+unfolding unifier keys could_match error_tree fault_tree plain calling_builtin
 row_cut_in_call = gives 60 [] 100 (both one_or_two (call (cut ∷ []))) (x ∷ []) [] (one_and_more ∷ is_two ∷ []) 8 Exhausted refl
 
 row_cut_in_called : Alone (call (or (both cut failure) truth ∷ [])) [] 4 Exhausted
-unfolding unifier keys could_match error_tree fault_tree
+unfolding unifier keys could_match error_tree fault_tree plain calling_builtin
 row_cut_in_called = gives 60 [] 100 (call (or (both cut failure) truth ∷ [])) (x ∷ []) [] [] 4 Exhausted refl
 
 row_added_to_atom : Gives one_pair 100 (call (atom (codes "f") ∷ x ∷ variable 1 ∷ [])) (x ∷ variable 1 ∷ []) (2 ∷ []) (closed (a ∷ b ∷ []) ∷ []) 2 Exhausted
-unfolding unifier keys could_match error_tree fault_tree
+unfolding unifier keys could_match error_tree fault_tree plain calling_builtin
 row_added_to_atom = gives 60 one_pair 100 (call (atom (codes "f") ∷ x ∷ variable 1 ∷ [])) (x ∷ variable 1 ∷ []) (2 ∷ []) (closed (a ∷ b ∷ []) ∷ []) 2 Exhausted refl
 
 row_added_to_compound : Gives one_pair 100 (call (one (codes "f") x ∷ variable 1 ∷ [])) (x ∷ variable 1 ∷ []) (2 ∷ []) (closed (a ∷ b ∷ []) ∷ []) 2 Exhausted
-unfolding unifier keys could_match error_tree fault_tree
+unfolding unifier keys could_match error_tree fault_tree plain calling_builtin
 row_added_to_compound = gives 60 one_pair 100 (call (one (codes "f") x ∷ variable 1 ∷ [])) (x ∷ variable 1 ∷ []) (2 ∷ []) (closed (a ∷ b ∷ []) ∷ []) 2 Exhausted refl
 
 row_added_to_control : Alone (call (atom (codes ",") ∷ truth ∷ equal x (number 1) ∷ [])) (is_one ∷ []) 3 Exhausted
-unfolding unifier keys could_match error_tree fault_tree
+unfolding unifier keys could_match error_tree fault_tree plain calling_builtin
 row_added_to_control = gives 60 [] 100 (call (atom (codes ",") ∷ truth ∷ equal x (number 1) ∷ [])) (x ∷ []) [] (is_one ∷ []) 3 Exhausted refl
 
 row_added_to_conjunction : Gives [] 100 (call (both a b ∷ c ∷ [])) [] (0 ∷ []) [] 2 (Ball (fault_tree (Existence (record { name = codes ","; arity = 3 })) (record { name = codes ","; arity = 3 })))
-unfolding unifier keys could_match error_tree fault_tree
+unfolding unifier keys could_match error_tree fault_tree plain calling_builtin
 row_added_to_conjunction = gives 60 [] 100 (call (both a b ∷ c ∷ [])) [] (0 ∷ []) [] 2 (Ball (fault_tree (Existence (record { name = codes ","; arity = 3 })) (record { name = codes ","; arity = 3 }))) refl
 
 row_call_of_eight : Gives [] 100 (call (a ∷ copies 7 b)) [] (0 ∷ []) [] 2 (Ball (fault_tree (Existence (record { name = codes "a"; arity = 7 })) (record { name = codes "a"; arity = 7 })))
-unfolding unifier keys could_match error_tree fault_tree
+unfolding unifier keys could_match error_tree fault_tree plain calling_builtin
 row_call_of_eight = gives 60 [] 100 (call (a ∷ copies 7 b)) [] (0 ∷ []) [] 2 (Ball (fault_tree (Existence (record { name = codes "a"; arity = 7 })) (record { name = codes "a"; arity = 7 }))) refl
 
 row_call_of_nine : Gives [] 100 (call (a ∷ copies 8 b)) [] (0 ∷ []) [] 1 (Ball (fault_tree (Existence (called 9)) (called 9)))
-unfolding unifier keys could_match error_tree fault_tree
+unfolding unifier keys could_match error_tree fault_tree plain calling_builtin
 row_call_of_nine = gives 60 [] 100 (call (a ∷ copies 8 b)) [] (0 ∷ []) [] 1 (Ball (fault_tree (Existence (called 9)) (called 9))) refl
 
 row_called_later : Alone (call (both (equal x truth) x ∷ [])) (closed (truth ∷ []) ∷ []) 4 Exhausted
-unfolding unifier keys could_match error_tree fault_tree
+unfolding unifier keys could_match error_tree fault_tree plain calling_builtin
 row_called_later = gives 60 [] 100 (call (both (equal x truth) x ∷ [])) (x ∷ []) [] (closed (truth ∷ []) ∷ []) 4 Exhausted refl
 
 row_called_now : Gives [] 100 (both (equal x cut) (call (or x truth ∷ []))) [] [] (closed [] ∷ []) 4 Exhausted
-unfolding unifier keys could_match error_tree fault_tree
+unfolding unifier keys could_match error_tree fault_tree plain calling_builtin
 row_called_now = gives 60 [] 100 (both (equal x cut) (call (or x truth ∷ []))) [] [] (closed [] ∷ []) 4 Exhausted refl
 
 row_unbound : Alone x [] 1 (Ball (fault_tree Instantiation (called 1)))
-unfolding unifier keys could_match error_tree fault_tree
+unfolding unifier keys could_match error_tree fault_tree plain calling_builtin
 row_unbound = gives 60 [] 100 x (x ∷ []) [] [] 1 (Ball (fault_tree Instantiation (called 1))) refl
 
 row_integer_goal : Alone (number 1) [] 1 (uncallable (number 1) (called 1))
-unfolding unifier keys could_match error_tree fault_tree
+unfolding unifier keys could_match error_tree fault_tree plain calling_builtin
 row_integer_goal = gives 60 [] 100 (number 1) (x ∷ []) [] [] 1 (uncallable (number 1) (called 1)) refl
 
 row_integer_in_body : Alone (call (both (atom (codes "foo")) (number 1) ∷ [])) [] 1 (uncallable (both (atom (codes "foo")) (number 1)) (called 1))
-unfolding unifier keys could_match error_tree fault_tree
+unfolding unifier keys could_match error_tree fault_tree plain calling_builtin
 row_integer_in_body = gives 60 [] 100 (call (both (atom (codes "foo")) (number 1) ∷ [])) (x ∷ []) [] [] 1 (uncallable (both (atom (codes "foo")) (number 1)) (called 1)) refl
 
 row_free_culprit : Alone (call (both (variable 5) (number 1) ∷ [])) [] 1 (uncallable (both x (number 1)) (called 1))
-unfolding unifier keys could_match error_tree fault_tree
+unfolding unifier keys could_match error_tree fault_tree plain calling_builtin
 row_free_culprit = gives 60 [] 100 (call (both (variable 5) (number 1) ∷ [])) (x ∷ []) [] [] 1 (uncallable (both x (number 1)) (called 1)) refl
 
 row_added_to_integer : Alone (call (number 1 ∷ a ∷ [])) [] 1 (uncallable (number 1) (called 2))
-unfolding unifier keys could_match error_tree fault_tree
+unfolding unifier keys could_match error_tree fault_tree plain calling_builtin
 row_added_to_integer = gives 60 [] 100 (call (number 1 ∷ a ∷ [])) (x ∷ []) [] [] 1 (uncallable (number 1) (called 2)) refl
 
 row_added_to_unbound : Alone (call (x ∷ a ∷ [])) [] 1 (Ball (fault_tree Instantiation (called 2)))
-unfolding unifier keys could_match error_tree fault_tree
+unfolding unifier keys could_match error_tree fault_tree plain calling_builtin
 row_added_to_unbound = gives 60 [] 100 (call (x ∷ a ∷ [])) (x ∷ []) [] [] 1 (Ball (fault_tree Instantiation (called 2))) refl
 
 row_added_to_either : Gives [] 100 (call (or failure (number 1) ∷ a ∷ [])) [] (0 ∷ []) [] 2 (Ball (fault_tree (Existence (record { name = codes ";"; arity = 3 })) (record { name = codes ";"; arity = 3 })))
-unfolding unifier keys could_match error_tree fault_tree
+unfolding unifier keys could_match error_tree fault_tree plain calling_builtin
 row_added_to_either = gives 60 [] 100 (call (or failure (number 1) ∷ a ∷ [])) [] (0 ∷ []) [] 2 (Ball (fault_tree (Existence (record { name = codes ";"; arity = 3 })) (record { name = codes ";"; arity = 3 }))) refl
 
 row_added_makes_no_body : Alone (call (one (codes ";") failure ∷ number 1 ∷ [])) [] 1 (uncallable (or failure (number 1)) (called 2))
-unfolding unifier keys could_match error_tree fault_tree
+unfolding unifier keys could_match error_tree fault_tree plain calling_builtin
 row_added_makes_no_body = gives 60 [] 100 (call (one (codes ";") failure ∷ number 1 ∷ [])) (x ∷ []) [] [] 1 (uncallable (or failure (number 1)) (called 2)) refl
 
 row_too_many : Alone (call (compound (codes "f") (trees (copies 255 a)) ∷ a ∷ [])) [] 1 (Ball (fault_tree (Representation (codes "max_arity")) (called 2)))
-unfolding unifier keys could_match error_tree fault_tree
+unfolding unifier keys could_match error_tree fault_tree plain calling_builtin
 row_too_many = gives 60 [] 100 (call (compound (codes "f") (trees (copies 255 a)) ∷ a ∷ [])) (x ∷ []) [] [] 1 (Ball (fault_tree (Representation (codes "max_arity")) (called 2))) refl
 
 row_denied_integer : Alone (denied (number 1)) [] 1 (uncallable (number 1) (record { name = codes "\\+"; arity = 1 }))
-unfolding unifier keys could_match error_tree fault_tree
+unfolding unifier keys could_match error_tree fault_tree plain calling_builtin
 row_denied_integer = gives 60 [] 100 (denied (number 1)) (x ∷ []) [] [] 1 (uncallable (number 1) (record { name = codes "\\+"; arity = 1 })) refl
 
 row_denied_unbound : Alone (denied x) [] 2 (Ball (fault_tree Instantiation (called 1)))
-unfolding unifier keys could_match error_tree fault_tree
+unfolding unifier keys could_match error_tree fault_tree plain calling_builtin
 row_denied_unbound = gives 60 [] 100 (denied x) (x ∷ []) [] [] 2 (Ball (fault_tree Instantiation (called 1))) refl
 
 row_denied_equal : Alone (denied (equal x (number 1))) [] 2 Exhausted
-unfolding unifier keys could_match error_tree fault_tree
+unfolding unifier keys could_match error_tree fault_tree plain calling_builtin
 row_denied_equal = gives 60 [] 100 (denied (equal x (number 1))) (x ∷ []) [] [] 2 Exhausted refl
 
 row_denied_fail : Alone (denied failure) (is_free ∷ []) 2 Exhausted
-unfolding unifier keys could_match error_tree fault_tree
+unfolding unifier keys could_match error_tree fault_tree plain calling_builtin
 row_denied_fail = gives 60 [] 100 (denied failure) (x ∷ []) [] (is_free ∷ []) 2 Exhausted refl
 
 row_denied_twice : Alone (denied (denied (equal x a))) (is_free ∷ []) 3 Exhausted
-unfolding unifier keys could_match error_tree fault_tree
+unfolding unifier keys could_match error_tree fault_tree plain calling_builtin
 row_denied_twice = gives 60 [] 100 (denied (denied (equal x a))) (x ∷ []) [] (is_free ∷ []) 3 Exhausted refl
 
 row_denied_alternatives : Alone (denied (denied one_or_two)) (is_free ∷ []) 4 Exhausted
-unfolding unifier keys could_match error_tree fault_tree
+unfolding unifier keys could_match error_tree fault_tree plain calling_builtin
 row_denied_alternatives = gives 60 [] 100 (denied (denied one_or_two)) (x ∷ []) [] (is_free ∷ []) 4 Exhausted refl
 
 row_cut_in_denied : Alone (both one_or_two (denied (both cut failure))) (one_and_more ∷ is_two ∷ []) 10 Exhausted
-unfolding unifier keys could_match error_tree fault_tree
+unfolding unifier keys could_match error_tree fault_tree plain calling_builtin
 row_cut_in_denied = gives 60 [] 100 (both one_or_two (denied (both cut failure))) (x ∷ []) [] (one_and_more ∷ is_two ∷ []) 10 Exhausted refl
 
 row_denied_closed : Alone (both (denied failure) one_or_two) (one_and_more ∷ is_two ∷ []) 6 Exhausted
-unfolding unifier keys could_match error_tree fault_tree
+unfolding unifier keys could_match error_tree fault_tree plain calling_builtin
 row_denied_closed = gives 60 [] 100 (both (denied failure) one_or_two) (x ∷ []) [] (one_and_more ∷ is_two ∷ []) 6 Exhausted refl
 
 row_else_taken : Alone (or (then failure truth) (equal x (number 2))) (is_two ∷ []) 4 Exhausted
-unfolding unifier keys could_match error_tree fault_tree
+unfolding unifier keys could_match error_tree fault_tree plain calling_builtin
 row_else_taken = gives 60 [] 100 (or (then failure truth) (equal x (number 2))) (x ∷ []) [] (is_two ∷ []) 4 Exhausted refl
 
 row_else_gone : Alone (or (then truth (equal x (number 1))) (equal x (number 2))) (is_one ∷ []) 3 Exhausted
-unfolding unifier keys could_match error_tree fault_tree
+unfolding unifier keys could_match error_tree fault_tree plain calling_builtin
 row_else_gone = gives 60 [] 100 (or (then truth (equal x (number 1))) (equal x (number 2))) (x ∷ []) [] (is_one ∷ []) 3 Exhausted refl
 
 row_then_fails : Alone (or (then truth failure) (equal x (number 2))) [] 3 Exhausted
-unfolding unifier keys could_match error_tree fault_tree
+unfolding unifier keys could_match error_tree fault_tree plain calling_builtin
 row_then_fails = gives 60 [] 100 (or (then truth failure) (equal x (number 2))) (x ∷ []) [] [] 3 Exhausted refl
 
 row_then_alone : Alone (then truth (equal x (number 1))) (is_one ∷ []) 3 Exhausted
-unfolding unifier keys could_match error_tree fault_tree
+unfolding unifier keys could_match error_tree fault_tree plain calling_builtin
 row_then_alone = gives 60 [] 100 (then truth (equal x (number 1))) (x ∷ []) [] (is_one ∷ []) 3 Exhausted refl
 
 row_condition_fails : Alone (then failure truth) [] 2 Exhausted
-unfolding unifier keys could_match error_tree fault_tree
+unfolding unifier keys could_match error_tree fault_tree plain calling_builtin
 row_condition_fails = gives 60 [] 100 (then failure truth) (x ∷ []) [] [] 2 Exhausted refl
 
 row_first_answer : Alone (then one_or_two truth) (is_one ∷ []) 4 Exhausted
-unfolding unifier keys could_match error_tree fault_tree
+unfolding unifier keys could_match error_tree fault_tree plain calling_builtin
 row_first_answer = gives 60 [] 100 (then one_or_two truth) (x ∷ []) [] (is_one ∷ []) 4 Exhausted refl
 
 row_first_answer_of_two : Alone (or (then one_or_two truth) truth) (is_one ∷ []) 4 Exhausted
-unfolding unifier keys could_match error_tree fault_tree
+unfolding unifier keys could_match error_tree fault_tree plain calling_builtin
 row_first_answer_of_two = gives 60 [] 100 (or (then one_or_two truth) truth) (x ∷ []) [] (is_one ∷ []) 4 Exhausted refl
 
 row_then_left_open : Alone (then truth one_or_two) (one_and_more ∷ is_two ∷ []) 6 Exhausted
-unfolding unifier keys could_match error_tree fault_tree
+unfolding unifier keys could_match error_tree fault_tree plain calling_builtin
 row_then_left_open = gives 60 [] 100 (then truth one_or_two) (x ∷ []) [] (one_and_more ∷ is_two ∷ []) 6 Exhausted refl
 
 row_bound_condition : Gives [] 100 (both (equal x (then failure truth)) (call (or x truth ∷ []))) [] [] (closed [] ∷ []) 6 Exhausted
-unfolding unifier keys could_match error_tree fault_tree
+unfolding unifier keys could_match error_tree fault_tree plain calling_builtin
 row_bound_condition = gives 60 [] 100 (both (equal x (then failure truth)) (call (or x truth ∷ []))) [] [] (closed [] ∷ []) 6 Exhausted refl
 
 row_cut_in_condition : Alone (both one_or_two (or (then cut truth) failure)) (one_and_more ∷ is_two ∷ []) 10 Exhausted
-unfolding unifier keys could_match error_tree fault_tree
+unfolding unifier keys could_match error_tree fault_tree plain calling_builtin
 row_cut_in_condition = gives 60 [] 100 (both one_or_two (or (then cut truth) failure)) (x ∷ []) [] (one_and_more ∷ is_two ∷ []) 10 Exhausted refl
 
 row_cut_in_failing_condition : Alone (or (then (both cut failure) truth) (equal x (number 2))) (is_two ∷ []) 5 Exhausted
-unfolding unifier keys could_match error_tree fault_tree
+unfolding unifier keys could_match error_tree fault_tree plain calling_builtin
 row_cut_in_failing_condition = gives 60 [] 100 (or (then (both cut failure) truth) (equal x (number 2))) (x ∷ []) [] (is_two ∷ []) 5 Exhausted refl
 
 row_cut_in_then : Alone (both one_or_two (or (then truth cut) failure)) (is_one ∷ []) 5 Exhausted
-unfolding unifier keys could_match error_tree fault_tree
+unfolding unifier keys could_match error_tree fault_tree plain calling_builtin
 row_cut_in_then = gives 60 [] 100 (both one_or_two (or (then truth cut) failure)) (x ∷ []) [] (is_one ∷ []) 5 Exhausted refl
 
 row_cut_in_else : Alone (both one_or_two (or (then failure truth) cut)) (is_one ∷ []) 6 Exhausted
-unfolding unifier keys could_match error_tree fault_tree
+unfolding unifier keys could_match error_tree fault_tree plain calling_builtin
 row_cut_in_else = gives 60 [] 100 (both one_or_two (or (then failure truth) cut)) (x ∷ []) [] (is_one ∷ []) 6 Exhausted refl
 
 row_nested : Alone (or (then (or (then truth failure) truth) (equal x (number 1))) (equal x (number 2))) (is_two ∷ []) 6 Exhausted
-unfolding unifier keys could_match error_tree fault_tree
+unfolding unifier keys could_match error_tree fault_tree plain calling_builtin
 row_nested = gives 60 [] 100 (or (then (or (then truth failure) truth) (equal x (number 1))) (equal x (number 2))) (x ∷ []) [] (is_two ∷ []) 6 Exhausted refl
 
 row_once_of_two : Alone (once one_or_two) (is_one ∷ []) 6 Exhausted
-unfolding unifier keys could_match error_tree fault_tree
+unfolding unifier keys could_match error_tree fault_tree plain calling_builtin
 row_once_of_two = gives 60 [] 100 (once one_or_two) (x ∷ []) [] (is_one ∷ []) 6 Exhausted refl
 
 row_once_repeat : Alone (once repeats) (is_free ∷ []) 5 Exhausted
-unfolding unifier keys could_match error_tree fault_tree
+unfolding unifier keys could_match error_tree fault_tree plain calling_builtin
 row_once_repeat = gives 60 [] 100 (once repeats) (x ∷ []) [] (is_free ∷ []) 5 Exhausted refl
 
 row_once_member : Gives members 100 (once (mem x (list_of (a ∷ b ∷ [])))) (x ∷ []) (3 ∷ []) (closed (a ∷ []) ∷ []) 5 Exhausted
-unfolding unifier keys could_match error_tree fault_tree
+unfolding unifier keys could_match error_tree fault_tree plain calling_builtin
 row_once_member = gives 60 members 100 (once (mem x (list_of (a ∷ b ∷ [])))) (x ∷ []) (3 ∷ []) (closed (a ∷ []) ∷ []) 5 Exhausted refl
 
 row_once_integer : Alone (once (number 1)) [] 3 (uncallable (number 1) (called 1))
-unfolding unifier keys could_match error_tree fault_tree
+unfolding unifier keys could_match error_tree fault_tree plain calling_builtin
 row_once_integer = gives 60 [] 100 (once (number 1)) (x ∷ []) [] [] 3 (uncallable (number 1) (called 1)) refl
 
 row_cut_after_repeat : Alone (both repeats cut) (is_free ∷ []) 2 Exhausted
-unfolding unifier keys could_match error_tree fault_tree
+unfolding unifier keys could_match error_tree fault_tree plain calling_builtin
 row_cut_after_repeat = gives 60 [] 100 (both repeats cut) (x ∷ []) [] (is_free ∷ []) 2 Exhausted refl
 
 row_repeat_spent : Gives [] 10 (both repeats failure) [] [] [] 10 (Spent 10)
-unfolding unifier keys could_match error_tree fault_tree
+unfolding unifier keys could_match error_tree fault_tree plain calling_builtin
 row_repeat_spent = gives 60 [] 10 (both repeats failure) [] [] [] 10 (Spent 10) refl
 
 row_repeat_answers : Gives [] 3 repeats [] [] (opened [] ∷ opened [] ∷ opened [] ∷ []) 3 (Spent 3)
-unfolding unifier keys could_match error_tree fault_tree
+unfolding unifier keys could_match error_tree fault_tree plain calling_builtin
 row_repeat_answers = gives 60 [] 3 repeats [] [] (opened [] ∷ opened [] ∷ opened [] ∷ []) 3 (Spent 3) refl
 
 row_catch_b : Alone (catches (throws b) x truth) (closed (b ∷ []) ∷ []) 4 Exhausted
-unfolding unifier keys could_match error_tree fault_tree
+unfolding unifier keys could_match error_tree fault_tree plain calling_builtin
 row_catch_b = gives 60 [] 100 (catches (throws b) x truth) (x ∷ []) [] (closed (b ∷ []) ∷ []) 4 Exhausted refl
 
 row_catch_spent : Gives [] 3 (catches (throws b) x truth) (x ∷ []) [] [] 3 (Spent 3)
-unfolding unifier keys could_match error_tree fault_tree
+unfolding unifier keys could_match error_tree fault_tree plain calling_builtin
 row_catch_spent = gives 60 [] 3 (catches (throws b) x truth) (x ∷ []) [] [] 3 (Spent 3) refl
 
 row_catch_left : Alone (both (catches truth x truth) (throws b)) [] 3 (Ball b)
-unfolding unifier keys could_match error_tree fault_tree
+unfolding unifier keys could_match error_tree fault_tree plain calling_builtin
 row_catch_left = gives 60 [] 100 (both (catches truth x truth) (throws b)) (x ∷ []) [] [] 3 (Ball b) refl
 
 row_catch_exited : Alone (both (catches one_or_two a truth) (both (equal x (number 2)) (throws a))) [] 8 (Ball a)
-unfolding unifier keys could_match error_tree fault_tree
+unfolding unifier keys could_match error_tree fault_tree plain calling_builtin
 row_catch_exited = gives 60 [] 100 (both (catches one_or_two a truth) (both (equal x (number 2)) (throws a))) (x ∷ []) [] [] 8 (Ball a) refl
 
 row_catch_undone : Alone (catches (both (equal x (number 1)) (throws a)) (variable 5) truth) (is_free ∷ []) 5 Exhausted
-unfolding unifier keys could_match error_tree fault_tree
+unfolding unifier keys could_match error_tree fault_tree plain calling_builtin
 row_catch_undone = gives 60 [] 100 (catches (both (equal x (number 1)) (throws a)) (variable 5) truth) (x ∷ []) [] (is_free ∷ []) 5 Exhausted refl
 
 row_catch_outer : Alone (catches (catches (throws a) b truth) a (equal x (number 1))) (is_one ∷ []) 5 Exhausted
-unfolding unifier keys could_match error_tree fault_tree
+unfolding unifier keys could_match error_tree fault_tree plain calling_builtin
 row_catch_outer = gives 60 [] 100 (catches (catches (throws a) b truth) a (equal x (number 1))) (x ∷ []) [] (is_one ∷ []) 5 Exhausted refl
 
 row_catch_recovery : Alone (catches (throws a) x (throws b)) [] 4 (Ball b)
-unfolding unifier keys could_match error_tree fault_tree
+unfolding unifier keys could_match error_tree fault_tree plain calling_builtin
 row_catch_recovery = gives 60 [] 100 (catches (throws a) x (throws b)) (x ∷ []) [] [] 4 (Ball b) refl
 
 row_catch_rethrown : Alone (catches (catches (throws a) (variable 1) (throws b)) x truth) (closed (b ∷ []) ∷ []) 7 Exhausted
-unfolding unifier keys could_match error_tree fault_tree
+unfolding unifier keys could_match error_tree fault_tree plain calling_builtin
 row_catch_rethrown = gives 60 [] 100 (catches (catches (throws a) (variable 1) (throws b)) x truth) (x ∷ []) [] (closed (b ∷ []) ∷ []) 7 Exhausted refl
 
 row_catch_error : Gives [] 100 (catches (call (x ∷ a ∷ [])) (one (codes "f") x) truth) [] [] [] 2 (Ball (fault_tree Instantiation (called 2)))
-unfolding unifier keys could_match error_tree fault_tree
+unfolding unifier keys could_match error_tree fault_tree plain calling_builtin
 row_catch_error = gives 60 [] 100 (catches (call (x ∷ a ∷ [])) (one (codes "f") x) truth) [] [] [] 2 (Ball (fault_tree Instantiation (called 2))) refl
 
 row_catch_copy : Gives [] 100 (catches (throws (one (codes "f") x)) (one (codes "f") (variable 1)) (equal (variable 1) a)) (x ∷ variable 1 ∷ []) [] (closed (variable 0 ∷ a ∷ []) ∷ []) 4 Exhausted
-unfolding unifier keys could_match error_tree fault_tree
+unfolding unifier keys could_match error_tree fault_tree plain calling_builtin
 row_catch_copy = gives 60 [] 100 (catches (throws (one (codes "f") x)) (one (codes "f") (variable 1)) (equal (variable 1) a)) (x ∷ variable 1 ∷ []) [] (closed (variable 0 ∷ a ∷ []) ∷ []) 4 Exhausted refl
 
 row_cut_in_catch : Alone (both one_or_two (catches cut b truth)) (one_and_more ∷ is_two ∷ []) 8 Exhausted
-unfolding unifier keys could_match error_tree fault_tree
+unfolding unifier keys could_match error_tree fault_tree plain calling_builtin
 row_cut_in_catch = gives 60 [] 100 (both one_or_two (catches cut b truth)) (x ∷ []) [] (one_and_more ∷ is_two ∷ []) 8 Exhausted refl
 
 row_catch_integer : Alone (catches (number 1) x truth) [] 1 (uncallable (number 1) catch_three)
-unfolding unifier keys could_match error_tree fault_tree
+unfolding unifier keys could_match error_tree fault_tree plain calling_builtin
 row_catch_integer = gives 60 [] 100 (catches (number 1) x truth) (x ∷ []) [] [] 1 (uncallable (number 1) catch_three) refl
 
 row_catch_unbound : Alone (catches x (variable 1) truth) (is_free ∷ []) 4 Exhausted
-unfolding unifier keys could_match error_tree fault_tree
+unfolding unifier keys could_match error_tree fault_tree plain calling_builtin
 row_catch_unbound = gives 60 [] 100 (catches x (variable 1) truth) (x ∷ []) [] (is_free ∷ []) 4 Exhausted refl
 
 row_catch_in_denied : Alone (denied (catches (throws a) (variable 1) failure)) (is_free ∷ []) 5 Exhausted
-unfolding unifier keys could_match error_tree fault_tree
+unfolding unifier keys could_match error_tree fault_tree plain calling_builtin
 row_catch_in_denied = gives 60 [] 100 (denied (catches (throws a) (variable 1) failure)) (x ∷ []) [] (is_free ∷ []) 5 Exhausted refl
 
 row_throw_unbound : Alone (throws x) [] 1 (Ball (fault_tree Instantiation throw_one))
-unfolding unifier keys could_match error_tree fault_tree
+unfolding unifier keys could_match error_tree fault_tree plain calling_builtin
 row_throw_unbound = gives 60 [] 100 (throws x) (x ∷ []) [] [] 1 (Ball (fault_tree Instantiation throw_one)) refl
 
 row_halted : Alone (both one_or_two halts) [] 3 (Halted (pos 0))
-unfolding unifier keys could_match error_tree fault_tree
+unfolding unifier keys could_match error_tree fault_tree plain calling_builtin
 row_halted = gives 60 [] 100 (both one_or_two halts) (x ∷ []) [] [] 3 (Halted (pos 0)) refl
 
 row_halted_with : Alone (halts_with (number 3)) [] 1 (Halted (pos 3))
-unfolding unifier keys could_match error_tree fault_tree
+unfolding unifier keys could_match error_tree fault_tree plain calling_builtin
 row_halted_with = gives 60 [] 100 (halts_with (number 3)) (x ∷ []) [] [] 1 (Halted (pos 3)) refl
 
 row_halted_in_catch : Alone (catches (halts_with (number 3)) x truth) [] 2 (Halted (pos 3))
-unfolding unifier keys could_match error_tree fault_tree
+unfolding unifier keys could_match error_tree fault_tree plain calling_builtin
 row_halted_in_catch = gives 60 [] 100 (catches (halts_with (number 3)) x truth) (x ∷ []) [] [] 2 (Halted (pos 3)) refl
 
 row_halt_unbound : Alone (halts_with x) [] 1 (Ball (fault_tree Instantiation halt_one))
-unfolding unifier keys could_match error_tree fault_tree
+unfolding unifier keys could_match error_tree fault_tree plain calling_builtin
 row_halt_unbound = gives 60 [] 100 (halts_with x) (x ∷ []) [] [] 1 (Ball (fault_tree Instantiation halt_one)) refl
 
 row_halt_atom : Alone (halts_with a) [] 1 (Ball (fault_tree (OfType (codes "integer") a) halt_one))
-unfolding unifier keys could_match error_tree fault_tree
+unfolding unifier keys could_match error_tree fault_tree plain calling_builtin
 row_halt_atom = gives 60 [] 100 (halts_with a) (x ∷ []) [] [] 1 (Ball (fault_tree (OfType (codes "integer") a) halt_one)) refl
 
 row_cut_in_lone_condition : Alone (both one_or_two (then cut truth)) (one_and_more ∷ is_two ∷ []) 10 Exhausted
-unfolding unifier keys could_match error_tree fault_tree
+unfolding unifier keys could_match error_tree fault_tree plain calling_builtin
 row_cut_in_lone_condition = gives 60 [] 100 (both one_or_two (then cut truth)) (x ∷ []) [] (one_and_more ∷ is_two ∷ []) 10 Exhausted refl
 
 row_most_arguments : Gives [] 100 (call (compound (codes "f") (trees (copies 254 a)) ∷ a ∷ [])) [] (0 ∷ []) [] 2 (Ball (fault_tree (Existence (record { name = codes "f"; arity = 255 })) (record { name = codes "f"; arity = 255 })))
-unfolding unifier keys could_match error_tree fault_tree
+unfolding unifier keys could_match error_tree fault_tree plain calling_builtin
 row_most_arguments = gives 60 [] 100 (call (compound (codes "f") (trees (copies 254 a)) ∷ a ∷ [])) [] (0 ∷ []) [] 2 (Ball (fault_tree (Existence (record { name = codes "f"; arity = 255 })) (record { name = codes "f"; arity = 255 }))) refl
 
 row_catch_failing : Alone (catches failure a truth) [] 2 Exhausted
-unfolding unifier keys could_match error_tree fault_tree
+unfolding unifier keys could_match error_tree fault_tree plain calling_builtin
 row_catch_failing = gives 60 [] 100 (catches failure a truth) (x ∷ []) [] [] 2 Exhausted refl
 
 row_catch_failing_later : Alone (catches (or (equal x (number 1)) failure) a truth) (one_and_more ∷ []) 5 Exhausted
-unfolding unifier keys could_match error_tree fault_tree
+unfolding unifier keys could_match error_tree fault_tree plain calling_builtin
 row_catch_failing_later = gives 60 [] 100 (catches (or (equal x (number 1)) failure) a truth) (x ∷ []) [] (one_and_more ∷ []) 5 Exhausted refl
 
 row_catch_out_of_denied : Alone (catches (denied (throws a)) a truth) (is_free ∷ []) 5 Exhausted
-unfolding unifier keys could_match error_tree fault_tree
+unfolding unifier keys could_match error_tree fault_tree plain calling_builtin
 row_catch_out_of_denied = gives 60 [] 100 (catches (denied (throws a)) a truth) (x ∷ []) [] (is_free ∷ []) 5 Exhausted refl
 
 row_catch_out_of_condition : Alone (catches (or (then (throws a) truth) truth) a truth) (is_free ∷ []) 5 Exhausted
-unfolding unifier keys could_match error_tree fault_tree
+unfolding unifier keys could_match error_tree fault_tree plain calling_builtin
 row_catch_out_of_condition = gives 60 [] 100 (catches (or (then (throws a) truth) truth) a truth) (x ∷ []) [] (is_free ∷ []) 5 Exhausted refl
 
 row_catch_out_of_once : Alone (catches (once (throws a)) a truth) (is_free ∷ []) 7 Exhausted
-unfolding unifier keys could_match error_tree fault_tree
+unfolding unifier keys could_match error_tree fault_tree plain calling_builtin
 row_catch_out_of_once = gives 60 [] 100 (catches (once (throws a)) a truth) (x ∷ []) [] (is_free ∷ []) 7 Exhausted refl
 
 row_catch_goes_on : Alone (both one_or_two (catches (throws a) a truth)) (one_and_more ∷ is_two ∷ []) 12 Exhausted
-unfolding unifier keys could_match error_tree fault_tree
+unfolding unifier keys could_match error_tree fault_tree plain calling_builtin
 row_catch_goes_on = gives 60 [] 100 (both one_or_two (catches (throws a) a truth)) (x ∷ []) [] (one_and_more ∷ is_two ∷ []) 12 Exhausted refl
 
 row_catch_number : Alone (catches (throws (number 1)) x truth) (is_one ∷ []) 4 Exhausted
-unfolding unifier keys could_match error_tree fault_tree
+unfolding unifier keys could_match error_tree fault_tree plain calling_builtin
 row_catch_number = gives 60 [] 100 (catches (throws (number 1)) x truth) (x ∷ []) [] (is_one ∷ []) 4 Exhausted refl
 
 pub has_rows : HasRows

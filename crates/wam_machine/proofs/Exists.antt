@@ -15,8 +15,9 @@ use Rattle.term_unifier.specs.Unifier.{unifier}
 use Rattle.wam_machine.specs.declared.run.RunEnd.{RunEnd}
 use Rattle.wam_machine.specs.declared.run.RunEnd.TheVariants.{Exhausted, Ball, Spent, Halted}
 use Rattle.prolog_terms.specs.Clauses.{body_of, call_term}
-use Rattle.wam_machine.specs.Control.{Control, True, Fail, Cut, Repeat, Both, Either, IfElse, If, Not, Call, Once, Catch, Throw, Halt, HaltWith, Equal, User, control_of, with_added}
-use Rattle.wam_machine.specs.Machine.{Next, Do, ConditionEnd, NotEnd, CatchEnd, Alternative, Clauses, Right, Again, NotMark, CatchMark, Choice, Mode, Going, Failing, Raising, State, Setting, Report, Outcome, Goes, Ends, Unfit, made_all, over, stepping, onwards, pushed, height, cut_to, not_callable, answer, next_under, solving, numbering, body_from, leaving, trying, candidate_clauses, looked, called, calling, call_with, raises, running, calling_added, denying, catching, throwing, halting, halt_with, not_integer, cut_back, active_catch, recovering, reaching, reached, caught, repeating, performing, doing, goal_move, going, back_to, taken, failing, raising, move, beginning, Runs, ends, goes, Misfits, unfit, later, Transcript, EachGoalRuns, CanBeDone, IsWellMade, HasBodies}
+use Rattle.term_builtins.specs.Meanings.{Meaning, Holds, Equates, Raises}
+use Rattle.wam_machine.specs.Control.{Control, True, Fail, Cut, Repeat, Both, Either, IfElse, If, Not, Call, Once, Catch, Throw, Halt, HaltWith, Builtin, User, control_of, with_added}
+use Rattle.wam_machine.specs.Machine.{Next, Do, ConditionEnd, NotEnd, CatchEnd, Alternative, Clauses, Right, Again, NotMark, CatchMark, Choice, Mode, Going, Failing, Raising, State, Setting, Report, Outcome, Goes, Ends, Unfit, made_all, over, stepping, onwards, pushed, height, cut_to, not_callable, answer, next_under, solving, numbering, body_from, leaving, trying, candidate_clauses, looked, called, calling, call_with, raises, running, calling_added, denying, catching, throwing, halting, halt_with, not_integer, cut_back, active_catch, recovering, reaching, reached, caught, repeating, performing, doing, goal_move, going, back_to, taken, failing, raising, move, beginning, Runs, ends, goes, Misfits, unfit, later, Transcript, EachGoalRuns, CanBeDone, IsWellMade, HasBodies, coming_to, calling_builtin}
 use Rattle.wam_machine.proofs.WellMade.{HasParts, parts, goes-makes, begins-well}
 use Rattle.wam_machine.proofs.Laws.{Within, move-within}
 use Rattle.wam_machine.proofs.Settles.{has_transcript}
@@ -42,6 +43,20 @@ solving-on : (new : List Next) (s : State) (o : Option (ℕ → Tree)) → On s 
 unfolding at
 solving-on new s None = record { next = record s { mode = Failing }; goes_on = λ fs. refl; front_is = refl; steps_is = refl }
 solving-on new s (Some m) = record { next = record s { goals = map (next_under m) (new ++ s.goals); bindings = λ v. substituted m (s.bindings v) }; goes_on = λ fs. refl; front_is = refl; steps_is = refl }
+
+-- what a builtin comes to, by what it looked at before
+coming_to-on : (i : Indicator) (s : State) (m : Meaning) → On s (λ fs. coming_to i (at s fs) m)
+unfolding at
+coming_to-on i s (Holds true) = record { next = s; goes_on = λ fs. refl; front_is = refl; steps_is = refl }
+coming_to-on i s (Holds false) = record { next = record s { mode = Failing }; goes_on = λ fs. refl; front_is = refl; steps_is = refl }
+coming_to-on i s (Equates added a b) =
+    let k : On (record s { fresh = s.fresh + added }) _ = solving-on [] (record s { fresh = s.fresh + added }) (unifier a b) in
+    record { next = k.next; goes_on = k.goes_on; front_is = k.front_is; steps_is = k.steps_is }
+coming_to-on i s (Raises fault) = record { next = record s { mode = Raising (fault_tree fault i) }; goes_on = λ fs. refl; front_is = refl; steps_is = refl }
+
+builtin-on : (row : ℕ) (args : Trees) (s : State) → On s (λ fs. calling_builtin row args (at s fs))
+unfolding at calling_builtin
+builtin-on row args s = coming_to-on _ s _
 
 trying-on : (goal : Tree) (cs : List Clause) (s : State) → On s (λ fs. trying goal cs (at s fs))
 unfolding at
@@ -166,7 +181,7 @@ module _ (x : Setting) (made : made_all x ≡ true) where
   doing-kind goal cut s (Throw b) le = stepped-on (length x.journal) s (performing x goal cut (Throw b)) le (λ t. throwing-on b t)
   doing-kind goal cut s Halt le = stepped-over (length x.journal) s (Halted (pos 0)) (performing x goal cut Halt) (λ t. refl)
   doing-kind goal cut s (HaltWith n) le = halting-kind (length x.journal) n s le
-  doing-kind goal cut s (Equal l r) le = stepped-on (length x.journal) s (performing x goal cut (Equal l r)) le (λ t. solving-on [] t (unifier l r))
+  doing-kind goal cut s (Builtin row args) le = stepped-on (length x.journal) s (performing x goal cut (Builtin row args)) le (λ t. builtin-on row args t)
   doing-kind goal cut s (User i) le = called-kind s goal i le
 
   going-kind : (s : State) (gs : List Next) → All CanBeDone gs → s.front ≤ length x.journal → Kind (length x.journal) x.budget s (λ fs. going x (at s fs) gs)

@@ -1,5 +1,5 @@
 -- What a goal is, by its name and its arguments.
-use Rattle.std.proofs.Common.{◌≡◌, ℕ, ◌+◌, ◌-◌, ◌<◌, ◌≤◌, List, [], ◌∷◌, length, drop, get_or, All, refl, sym, ap, ◌∙◌, arith, subst, Bool, true, false, Some, codes, Vec, Global, slice_get}
+use Rattle.std.proofs.Common.{◌≡◌, ℕ, ◌-◌, ◌<◌, ◌≤◌, List, [], ◌∷◌, length, drop, get_or, All, refl, sym, ap, ◌∙◌, arith, subst, Bool, true, false, suc, Option, Some, None, codes, Vec, Global, slice_get}
 use Rattle.std.specs.Prelude.{IsTrue, if◌then◌else◌, ◌&&◌, nat_lt, nat_eq}
 use Rattle.std.specs.Cmp.Lexicographic.{pointwise, same_text}
 use Rattle.std.proofs.lemmas.Cmp.{nat_list_eq_equiv}
@@ -14,11 +14,12 @@ use Rattle.term_store.specs.declared.cell.View.TheVariants as view
 use Rattle.term_store.specs.Terms.{text, trees_of, HasTerm}
 use Rattle.term_store.specs.Views.{tree_of}
 use Rattle.wam_machine.specs.Terms.{IsBuilt, IsGoal, built}
-use Rattle.wam_machine.specs.Goals.{IsFound, IsFoundNow, IsControl, AreAmong, AreGoals, control_in}
+use Rattle.wam_machine.specs.Goals.{IsFound, IsFoundNow, IsControl, IsPlain, AreAmong, AreGoals, control_in}
 use Rattle.wam_machine.specs.Control as spec
-use Rattle.wam_machine.specs.Control.{control_of, control_of_either}
+use Rattle.term_builtins.specs.Table.{Row, builtins, place_in, place_when, is_row}
+use Rattle.wam_machine.specs.Control.{control_of, control_of_either, plain, builtin_or_user}
 use Rattle.wam_machine.specs.declared.control.Control.{Control}
-use Rattle.wam_machine.specs.declared.control.Control.TheVariants.{True, Fail, Cut, Repeat, Both, Either, IfElse, If, Not, Call, Once, Catch, Throw, Halt, HaltWith, Equal, User}
+use Rattle.wam_machine.specs.declared.control.Control.TheVariants.{True, Fail, Cut, Repeat, Both, Either, IfElse, If, Not, Call, Once, Catch, Throw, Halt, HaltWith, Builtin, User}
 use Rattle.wam_machine.specs.declared.terms.Terms.{Terms}
 use Rattle.wam_machine.proofs.SeenCells.{count_trees, text_read}
 use Rattle.wam_machine.proofs.SpineParts.{two-cells, two-trees}
@@ -41,26 +42,56 @@ sixth : (c1 c2 c3 c4 c5 c6 : spec.Control) (p q r s t : Bool) → p ≡ false �
     → (if p then c1 else if q then c2 else if r then c3 else if s then c4 else if t then c5 else c6) ≡ c6
 sixth c1 c2 c3 c4 c5 c6 p q r s t a b c d e = rw (a, b, c, d, e) refl
 
-pub atom-user : (a : List ℕ) → is_named (codes "true") a ≡ false → is_named (codes "fail") a ≡ false → is_named (codes "!") a ≡ false → is_named (codes "repeat") a ≡ false
-    → is_named (codes "halt") a ≡ false → IsFound [] (λ tree. atom a) (User (record { name = a; arity = 0 }))
-atom-user a p q r s h = record {
+pub atom-plain : (a : List ℕ) → is_named (codes "true") a ≡ false → is_named (codes "fail") a ≡ false → is_named (codes "!") a ≡ false → is_named (codes "repeat") a ≡ false
+    → is_named (codes "halt") a ≡ false → (c : Control) → IsPlain a [] c → IsFound [] (λ tree. atom a) c
+atom-plain a p q r s h c f = record {
   is = λ tree.
-      ap (λ (c : spec.Control). Some c)
-      (sixth spec.True spec.Fail spec.Cut spec.Repeat spec.Halt (spec.User (record { name = a; arity = 0 })) (is_named (codes "true") a) (is_named (codes "fail") a) (is_named (codes "!") a) (is_named (codes "repeat") a)
-      (is_named (codes "halt") a) p q r s h);
-  among = λ n sh k. tt;
+      ap (λ (d : spec.Control). Some d)
+      (sixth spec.True spec.Fail spec.Cut spec.Repeat spec.Halt (plain a none) (is_named (codes "true") a) (is_named (codes "fail") a) (is_named (codes "!") a) (is_named (codes "repeat") a)
+      (is_named (codes "halt") a) p q r s h ∙ f.is tree);
+  among = λ n sh k. f.among n sh k;
 }
 
 -- ---- one argument
 
-pub one-user : (f : List ℕ) (only : Cell) → is_named (codes "call") f ≡ false → is_named (codes "once") f ≡ false → is_named (codes "\\+") f ≡ false → is_named (codes "throw") f ≡ false
-    → is_named (codes "halt") f ≡ false → IsFound (only ∷ []) (λ tree. compound f (more (tree only) none)) (User (record { name = f; arity = 1 }))
-one-user f only p q r s h = record {
+pub one-plain : (f : List ℕ) (only : Cell) → is_named (codes "call") f ≡ false → is_named (codes "once") f ≡ false → is_named (codes "\\+") f ≡ false → is_named (codes "throw") f ≡ false
+    → is_named (codes "halt") f ≡ false → (c : Control) → IsPlain f (only ∷ []) c → IsFound (only ∷ []) (λ tree. compound f (more (tree only) none)) c
+one-plain f only p q r s h c g = record {
   is = λ tree.
-      ap (λ (c : spec.Control). Some c)
-      (sixth (spec.Call (tree only) none) (spec.Once (tree only)) (spec.Not (tree only)) (spec.Throw (tree only)) (spec.HaltWith (tree only)) (spec.User (record { name = f; arity = 1 }))
-      (is_named (codes "call") f) (is_named (codes "once") f) (is_named (codes "\\+") f) (is_named (codes "throw") f) (is_named (codes "halt") f) p q r s h);
-  among = λ n sh k. tt;
+      ap (λ (d : spec.Control). Some d)
+      (sixth (spec.Call (tree only) none) (spec.Once (tree only)) (spec.Not (tree only)) (spec.Throw (tree only)) (spec.HaltWith (tree only)) (plain f (more (tree only) none))
+      (is_named (codes "call") f) (is_named (codes "once") f) (is_named (codes "\\+") f) (is_named (codes "throw") f) (is_named (codes "halt") f) p q r s h ∙ g.is tree);
+  among = λ n sh k. g.among n sh k;
+}
+
+-- ---- two and three arguments
+
+fifth : (c1 c2 c3 c4 c5 : spec.Control) (p q r s : Bool) → p ≡ false → q ≡ false → r ≡ false → s ≡ false
+    → (if p then c1 else if q then c2 else if r then c3 else if s then c4 else c5) ≡ c5
+fifth c1 c2 c3 c4 c5 p q r s a b c d = rw (a, b, c, d) refl
+
+pub two-plain : (f : List ℕ) (left right : Cell) → is_named (codes ",") f ≡ false → is_named (codes ";") f ≡ false → is_named (codes "->") f ≡ false → is_named (codes "call") f ≡ false
+    → (c : Control) → IsPlain f (left ∷ right ∷ []) c → IsFound (left ∷ right ∷ []) (λ tree. compound f (more (tree left) (more (tree right) none))) c
+two-plain f left right p q r s c g = record {
+  is = λ tree.
+      ap (λ (d : spec.Control). Some d)
+      (fifth (spec.Both (tree left) (tree right)) (control_of_either (tree left) (tree right)) (spec.If (tree left) (tree right)) (spec.Call (tree left) (more (tree right) none))
+      (plain f (more (tree left) (more (tree right) none)))
+      (is_named (codes ",") f) (is_named (codes ";") f) (is_named (codes "->") f) (is_named (codes "call") f) p q r s ∙ g.is tree);
+  among = λ n sh k. g.among n sh k;
+}
+
+third : (c1 c2 c3 : spec.Control) (p q : Bool) → p ≡ false → q ≡ false → (if p then c1 else if q then c2 else c3) ≡ c3
+third c1 c2 c3 p q a b = rw (a, b) refl
+
+pub three-plain : (f : List ℕ) (first second last : Cell) → is_named (codes "catch") f ≡ false → is_named (codes "call") f ≡ false
+    → (c : Control) → IsPlain f (first ∷ second ∷ last ∷ []) c → IsFound (first ∷ second ∷ last ∷ []) (λ tree. compound f (more (tree first) (more (tree second) (more (tree last) none)))) c
+three-plain f first second last p q c g = record {
+  is = λ tree.
+      ap (λ (d : spec.Control). Some d)
+      (third (spec.Catch (tree first) (tree second) (tree last)) (spec.Call (tree first) (more (tree second) (more (tree last) none)))
+      (plain f (more (tree first) (more (tree second) (more (tree last) none)))) (is_named (codes "catch") f) (is_named (codes "call") f) p q ∙ g.is tree);
+  among = λ n sh k. g.among n sh k;
 }
 
 -- ---- four arguments or more
@@ -93,7 +124,7 @@ more-call f (a ∷ b ∷ c ∷ x ∷ cs) d added some few e is = record {
       let low : count (trees_of tree (b ∷ c ∷ x ∷ cs)) < 8 = omega (arith, k, few) in
       ap (λ (k : spec.Control). Some k)
       (both-hold (is_named (codes "call") f) (nat_lt (count (trees_of tree (b ∷ c ∷ x ∷ cs))) 8) (spec.Call (tree a) (trees_of tree (b ∷ c ∷ x ∷ cs)))
-      (spec.User (record { name = f; arity = count (trees_of tree (b ∷ c ∷ x ∷ cs)) + 1 })) e (below _ 8 low))
+      (plain f (more (tree a) (trees_of tree (b ∷ c ∷ x ∷ cs)))) e (below _ 8 low))
       ∙ sym (ap (λ (l : List Cell). Some (spec.Call (tree a) (trees_of tree l))) is);
   among = λ n sh h. (
     h 0 a (omega arith),
@@ -105,21 +136,49 @@ more-call f (a ∷ b ∷ c ∷ x ∷ cs) d added some few e is = record {
 neither : (b : Bool) (x y : spec.Control) → b ≡ false → (if b then x else y) ≡ y
 neither b x y e = rw e refl
 
-pub more-user : (f : List ℕ) (args : List Cell) → 4 ≤ length args → (is_named (codes "call") f && nat_lt (length args - 1) 8) ≡ false
-    → IsFound args (λ tree. compound f (trees_of tree args)) (User (record { name = f; arity = length args }))
-more-user f [] some e = absurd (omega arith)
-more-user f (a ∷ []) some e = absurd (omega arith)
-more-user f (a ∷ b ∷ []) some e = absurd (omega arith)
-more-user f (a ∷ b ∷ c ∷ []) some e = absurd (omega arith)
-more-user f (a ∷ b ∷ c ∷ x ∷ cs) some e = record {
+pub more-plain : (f : List ℕ) (args : List Cell) → 4 ≤ length args → (is_named (codes "call") f && nat_lt (length args - 1) 8) ≡ false
+    → (c : Control) → IsPlain f args c → IsFound args (λ tree. compound f (trees_of tree args)) c
+more-plain f [] some e k g = absurd (omega arith)
+more-plain f (a ∷ []) some e k g = absurd (omega arith)
+more-plain f (a ∷ b ∷ []) some e k g = absurd (omega arith)
+more-plain f (a ∷ b ∷ c ∷ []) some e k g = absurd (omega arith)
+more-plain f (a ∷ b ∷ c ∷ x ∷ cs) some e k g = record {
   is = λ tree.
-      let k = count_trees tree (b ∷ c ∷ x ∷ cs) in
-      let fewer : count (trees_of tree (b ∷ c ∷ x ∷ cs)) ≡ length (a ∷ b ∷ c ∷ x ∷ cs) - 1 = omega (arith, k) in
-      let whole : count (trees_of tree (b ∷ c ∷ x ∷ cs)) + 1 ≡ length (a ∷ b ∷ c ∷ x ∷ cs) = omega (arith, k) in
-      ap (λ (k : spec.Control). Some k)
+      let n = count_trees tree (b ∷ c ∷ x ∷ cs) in
+      let fewer : count (trees_of tree (b ∷ c ∷ x ∷ cs)) ≡ length (a ∷ b ∷ c ∷ x ∷ cs) - 1 = omega (arith, n) in
+      ap (λ (d : spec.Control). Some d)
       (neither (is_named (codes "call") f && nat_lt (count (trees_of tree (b ∷ c ∷ x ∷ cs))) 8) (spec.Call (tree a) (trees_of tree (b ∷ c ∷ x ∷ cs)))
-      (spec.User (record { name = f; arity = count (trees_of tree (b ∷ c ∷ x ∷ cs)) + 1 })) (ap (λ (n : ℕ). is_named (codes "call") f && nat_lt n 8) fewer ∙ e))
-      ∙ ap (λ (n : ℕ). Some (spec.User (record { name = f; arity = n }))) whole;
+      (plain f (more (tree a) (trees_of tree (b ∷ c ∷ x ∷ cs)))) (ap (λ (m : ℕ). is_named (codes "call") f && nat_lt m 8) fewer ∙ e) ∙ g.is tree);
+  among = λ n sh h. g.among n sh h;
+}
+
+-- ---- what is no control construct
+
+-- the place of a row that was found is one of the table
+place-below-row : (b : Bool) (o : Option ℕ) (n k : ℕ) → ((i : ℕ) → o ≡ Some i → i < n) → place_when b o ≡ Some k → k < suc n
+place-below-row true o n k low q = let z : 0 ≡ k = cc q in omega (arith, z)
+place-below-row false None n k low q = absurd (cc q)
+place-below-row false (Some i) n k low q = let l = low i refl in let z : suc i ≡ k = cc q in omega (arith, l, z)
+
+pub place-below : (rs : List Row) (name : List ℕ) (arity k : ℕ) → place_in rs name arity ≡ Some k → k < length rs
+place-below [] name arity k e = absurd (cc e)
+place-below (r ∷ rs) name arity k e = place-below-row (is_row name arity r) (place_in rs name arity) (length rs) k (λ i p. place-below rs name arity i p) e
+
+pub plain-builtin : (f : List ℕ) (cells : List Cell) (arity row : ℕ) (args : Vec Cell Global) → arity ≡ length cells → place_in builtins f arity ≡ Some row → args.items ≡ cells → IsPlain f cells (Builtin row args)
+unfolding plain
+plain-builtin f cells arity row args m e is = record {
+  is = λ tree.
+      ap (λ (o : Option ℕ). builtin_or_user o f (trees_of tree cells)) (ap (place_in builtins f) (count_trees tree cells ∙ sym m) ∙ e)
+      ∙ sym (ap (λ (l : List Cell). spec.Builtin row (trees_of tree l)) is);
+  among = λ n sh h. (place-below builtins f arity row e, subst (All (HasTerm n sh)) (sym is) h);
+}
+
+pub plain-user : (f : List ℕ) (cells : List Cell) (arity : ℕ) → arity ≡ length cells → place_in builtins f arity ≡ None → IsPlain f cells (User (record { name = f; arity = arity }))
+unfolding plain
+plain-user f cells arity n e = record {
+  is = λ tree.
+      ap (λ (o : Option ℕ). builtin_or_user o f (trees_of tree cells)) (ap (place_in builtins f) (count_trees tree cells ∙ sym n) ∙ e)
+      ∙ ap (λ (k : ℕ). spec.User (record { name = f; arity = k })) (count_trees tree cells ∙ sym n);
   among = λ n sh h. tt;
 }
 
@@ -220,7 +279,7 @@ module _ {C : Type 0} (t : Terms C) where
   found-goals (Throw b) h k = tt
   found-goals Halt h k = tt
   found-goals (HaltWith n) h k = tt
-  found-goals (Equal a b) h k = tt
+  found-goals (Builtin row args) h k = tt
   found-goals (User i) h k = tt
 
   pub found-control : (g : Tree) (c : Control) → IsTrue (is_body g) → IsFoundNow t g c → IsControl t g c

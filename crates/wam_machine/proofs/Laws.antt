@@ -11,10 +11,11 @@ use Rattle.journal_base.specs.Keys.{keys}
 use Rattle.prolog_terms.specs.Substitutions.{renamed, beyond}
 use Rattle.term_unifier.specs.Unifier.{unifier}
 use Rattle.prolog_terms.specs.Clauses.{body_of}
-use Rattle.wam_machine.specs.Control.{Control, True, Fail, Cut, Repeat, Both, Either, IfElse, If, Not, Call, Once, Catch, Throw, Halt, HaltWith, Equal, User, control_of, with_added}
+use Rattle.term_builtins.specs.Meanings.{Meaning, Holds, Equates, Raises}
+use Rattle.wam_machine.specs.Control.{Control, True, Fail, Cut, Repeat, Both, Either, IfElse, If, Not, Call, Once, Catch, Throw, Halt, HaltWith, Builtin, User, control_of, with_added}
 use Rattle.wam_machine.specs.declared.run.RunEnd.{RunEnd}
 use Rattle.wam_machine.specs.declared.run.RunEnd.TheVariants.{Exhausted, Ball, Spent, Halted}
-use Rattle.wam_machine.specs.Machine.{Next, Do, ConditionEnd, NotEnd, CatchEnd, Alternative, Clauses, Right, Again, NotMark, CatchMark, Choice, Mode, Going, Failing, Raising, State, Setting, Report, Outcome, Goes, Ends, Unfit, no_more, made_all, over, stepping, onwards, height, solving, equating, numbering, body_from, entering, leaving, trying, candidate_clauses, looked, called, calling, call_with, running, calling_added, denying, catching, throwing, halting, cut_back, leaving_catch, active_catch, recovering, reaching, reached, caught, repeating, performing, doing, goal_move, going, back_to, taken, failing, raising, raises, move, Runs, ends, goes}
+use Rattle.wam_machine.specs.Machine.{Next, Do, ConditionEnd, NotEnd, CatchEnd, Alternative, Clauses, Right, Again, NotMark, CatchMark, Choice, Mode, Going, Failing, Raising, State, Setting, Report, Outcome, Goes, Ends, Unfit, no_more, made_all, over, stepping, onwards, height, solving, equating, numbering, body_from, entering, leaving, trying, candidate_clauses, looked, called, calling, call_with, running, calling_added, denying, catching, throwing, halting, cut_back, leaving_catch, active_catch, recovering, reaching, reached, caught, repeating, performing, doing, goal_move, going, back_to, taken, failing, raising, raises, move, Runs, ends, goes, coming_to, calling_builtin}
 
 -- ---- one transcript
 
@@ -63,6 +64,16 @@ solving-keeps goals s (Some m) = refl
 
 equating-keeps : (a b : Tree) (goals : List Next) (s : State) → Keeps s.steps (equating a b goals s)
 equating-keeps a b goals s = solving-keeps goals s (unifier a b)
+
+coming_to-keeps : (at : Indicator) (s : State) (m : Meaning) → Keeps s.steps (coming_to at s m)
+coming_to-keeps at s (Holds true) = refl
+coming_to-keeps at s (Holds false) = refl
+coming_to-keeps at s (Equates added a b) = equating-keeps a b [] (record s { fresh = s.fresh + added })
+coming_to-keeps at s (Raises fault) = refl
+
+builtin-keeps : (row : ℕ) (args : Trees) (s : State) → Keeps s.steps (calling_builtin row args s)
+unfolding calling_builtin
+builtin-keeps row args s = coming_to-keeps _ s _
 
 entering-keeps : (goal : Tree) (c : Clause) (from cut : ℕ) (s : State) → Keeps s.steps (entering goal c from cut s)
 entering-keeps goal c from cut s = equating-keeps (renamed from c.head) goal (body_from from cut c) s
@@ -146,7 +157,7 @@ performing-keeps x goal cut (Catch g c r) s = catching-keeps g c r s (body_of g)
 performing-keeps x goal cut (Throw b) s = throwing-keeps b s
 performing-keeps x goal cut Halt s = over-keeps x s (Halted (pos 0))
 performing-keeps x goal cut (HaltWith n) s = halting-keeps x n s
-performing-keeps x goal cut (Equal a b) s = equating-keeps a b [] s
+performing-keeps x goal cut (Builtin row args) s = builtin-keeps row args s
 performing-keeps x goal cut (User i) s = calling-keeps x s goal i
 
 performed-within : (x : Setting) (goal : Tree) (cut : ℕ) (s : State) (c : Control) → s.steps ≤ x.budget → Within x.budget (stepping x s (performing x goal cut c))
@@ -168,7 +179,7 @@ doing-within x goal cut s (Catch g c r) le = performed-within x goal cut s (Catc
 doing-within x goal cut s (Throw b) le = performed-within x goal cut s (Throw b) le
 doing-within x goal cut s Halt le = performed-within x goal cut s Halt le
 doing-within x goal cut s (HaltWith n) le = performed-within x goal cut s (HaltWith n) le
-doing-within x goal cut s (Equal a b) le = performed-within x goal cut s (Equal a b) le
+doing-within x goal cut s (Builtin row args) le = performed-within x goal cut s (Builtin row args) le
 doing-within x goal cut s (User i) le = performed-within x goal cut s (User i) le
 
 goal_move-within : (x : Setting) (goal : Tree) (cut : ℕ) (s : State) (o : Option Control) → s.steps ≤ x.budget → Within x.budget (goal_move x goal cut s o)

@@ -59,3 +59,5 @@ pub mod Examples
 pub mod Marks
 pub mod BallTerms
 pub mod BallMoves
+pub mod CalledRows
+pub mod ActedRows

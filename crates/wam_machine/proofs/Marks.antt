@@ -11,10 +11,11 @@ use Rattle.prolog_terms.specs.declared.fault.Fault.TheVariants.{Representation}
 use Rattle.journal_base.specs.Journal.{Journal, number_of}
 use Rattle.journal_base.specs.Keys.{keys}
 use Rattle.term_unifier.specs.Unifier.{unifier}
-use Rattle.wam_machine.specs.Control.{Control, True, Fail, Cut, Repeat, Both, Either, IfElse, If, Not, Call, Once, Catch, Throw, Halt, HaltWith, Equal, User, control_of, with_added, is_true_atom}
+use Rattle.term_builtins.specs.Meanings.{Meaning, Holds as Held, Equates, Raises}
+use Rattle.wam_machine.specs.Control.{Control, True, Fail, Cut, Repeat, Both, Either, IfElse, If, Not, Call, Once, Catch, Throw, Halt, HaltWith, Builtin, User, control_of, with_added, is_true_atom}
 use Rattle.wam_machine.specs.declared.run.RunEnd.{RunEnd}
 use Rattle.wam_machine.specs.declared.run.RunEnd.TheVariants.{Exhausted, Ball, Spent, Halted}
-use Rattle.wam_machine.specs.Machine.{Next, Do, ConditionEnd, NotEnd, CatchEnd, Alternative, Clauses, Right, Again, NotMark, CatchMark, Choice, Mode, Going, Failing, Raising, State, Setting, Outcome, Goes, Ends, Unfit, no_more, made_all, over, stepping, onwards, pushed, height, cut_to, cut_back, next_under, solving, numbering, body_from, entering, leaving, trying, candidate_clauses, looked, called, calling, call_with, raises, running, calling_added, denying, catching, throwing, halting, repeating, performing, doing, goal_move, going, back_to, taken, failing, active_catch, recovering, reaching, reached, caught, raising, move, beginning, Reaches, here, further, is_mark, HasMark, CatchesHaveMarks}
+use Rattle.wam_machine.specs.Machine.{Next, Do, ConditionEnd, NotEnd, CatchEnd, Alternative, Clauses, Right, Again, NotMark, CatchMark, Choice, Mode, Going, Failing, Raising, State, Setting, Outcome, Goes, Ends, Unfit, no_more, made_all, over, stepping, onwards, pushed, height, cut_to, cut_back, next_under, solving, numbering, body_from, entering, leaving, trying, candidate_clauses, looked, called, calling, call_with, raises, running, calling_added, denying, catching, throwing, halting, repeating, performing, doing, goal_move, going, back_to, taken, failing, active_catch, recovering, reaching, reached, caught, raising, move, beginning, Reaches, here, further, is_mark, HasMark, CatchesHaveMarks, coming_to, calling_builtin}
 
 -- ---- what holds of a state
 
@@ -173,6 +174,16 @@ solving-kept : (new : List Next) (s : State) (o : Option (ℕ → Tree)) → Nes
 solving-kept new s None n h = record { nested = h.nested; stacked = h.stacked }
 solving-kept new s (Some m) n h = record { nested = nested_under m s.stack (new ++ s.goals) n; stacked = h.stacked }
 
+coming_to-kept : (at : Indicator) (s : State) (m : Meaning) → Holds s → Kept (coming_to at s m)
+coming_to-kept at s (Held true) h = h
+coming_to-kept at s (Held false) h = record { nested = h.nested; stacked = h.stacked }
+coming_to-kept at s (Equates added a b) h = solving-kept [] (record s { fresh = s.fresh + added }) (unifier a b) h.nested (record { nested = h.nested; stacked = h.stacked })
+coming_to-kept at s (Raises fault) h = record { nested = h.nested; stacked = h.stacked }
+
+builtin-kept : (row : ℕ) (args : Trees) (s : State) → Holds s → Kept (calling_builtin row args s)
+unfolding calling_builtin
+builtin-kept row args s h = coming_to-kept _ s _ h
+
 body-nested : (from cut : ℕ) (c : Clause) (st : List Choice) (gs : List Next) → low gs ≤ cut → Nested st gs → Nested st (body_from from cut c ++ gs)
 body-nested from cut c st gs l h = go (is_true_atom c.body)
   where
@@ -284,7 +295,7 @@ performing-kept x goal cut (Catch g c r) s l h = catching-kept g c r s (body_of 
 performing-kept x goal cut (Throw b) s l h = throwing-kept b s h
 performing-kept x goal cut Halt s l h = over-kept x s (Halted (pos 0))
 performing-kept x goal cut (HaltWith n) s l h = halting-kept x n s h
-performing-kept x goal cut (Equal a b) s l h = solving-kept [] s (unifier a b) h.nested h
+performing-kept x goal cut (Builtin row args) s l h = builtin-kept row args s h
 performing-kept x goal cut (User i) s l h = calling-kept x s goal i h
 
 stepping-kept : (x : Setting) (s : State) (then_ : State → Outcome) → Kept (then_ (record s { steps = suc s.steps })) → Kept (stepping x s then_)
@@ -313,7 +324,7 @@ doing-kept x goal cut s (Catch g c r) l h = performed-kept x goal cut s (Catch g
 doing-kept x goal cut s (Throw b) l h = performed-kept x goal cut s (Throw b) l h
 doing-kept x goal cut s Halt l h = performed-kept x goal cut s Halt l h
 doing-kept x goal cut s (HaltWith n) l h = performed-kept x goal cut s (HaltWith n) l h
-doing-kept x goal cut s (Equal a b) l h = performed-kept x goal cut s (Equal a b) l h
+doing-kept x goal cut s (Builtin row args) l h = performed-kept x goal cut s (Builtin row args) l h
 doing-kept x goal cut s (User i) l h = performed-kept x goal cut s (User i) l h
 
 goal_move-kept : (x : Setting) (goal : Tree) (cut : ℕ) (s : State) (o : Option Control) → low s.goals ≤ cut → Holds s → Kept (goal_move x goal cut s o)

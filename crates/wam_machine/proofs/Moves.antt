@@ -10,7 +10,7 @@ use Rattle.prolog_terms.specs.declared.fault.Fault.TheVariants.{Existence}
 use Rattle.journal_base.specs.Calls.{Goal}
 use Rattle.journal_base.specs.Journal.{Journal, number_of}
 use Rattle.journal_base.specs.Keys.{keys}
-use Rattle.wam_machine.specs.Control.{Control, True, Fail, Cut, Repeat, Both, Either, IfElse, If, Not, Call, Once, Catch, Throw, Halt, HaltWith, Equal, User, control_of}
+use Rattle.wam_machine.specs.Control.{Control, True, Fail, Cut, Repeat, Both, Either, IfElse, If, Not, Call, Once, Catch, Throw, Halt, HaltWith, Builtin, User, control_of}
 use Rattle.wam_machine.specs.Machine as spec
 use Rattle.wam_machine.specs.Machine.{Next, Do, Alternative, Clauses, Right, Again, NotMark, CatchMark, State, Setting, Outcome, Goes, Ends, Look, Report, Going, Failing, Raising, move, trying, calling, called, candidate_clauses, call_of, goal_move, doing, performing, stepping, taken, back_to, is_alternative, made_all, over, newest}
 use Rattle.wam_machine.specs.Terms.{Turn, OfCall, OfRight, OfRepeat, OfNot, OfCatch, Saved, is_open, is_any_open}
@@ -92,7 +92,7 @@ TakesStep (Catch g c r) = Unit {0}
 TakesStep (Throw b) = Unit {0}
 TakesStep Halt = Unit {0}
 TakesStep (HaltWith n) = Unit {0}
-TakesStep (Equal a b) = Unit {0}
+TakesStep (Builtin row args) = Unit {0}
 TakesStep (User i) = Unit {0}
 
 pub doing-steps : (x : Setting) (goal : Tree) (cut : ℕ) (s : State) (c : Control) → TakesStep c → doing x goal cut s c ≡ stepping x s (performing x goal cut c)
@@ -111,7 +111,7 @@ doing-steps x goal cut s (Catch g c r) h = refl
 doing-steps x goal cut s (Throw b) h = refl
 doing-steps x goal cut s Halt h = refl
 doing-steps x goal cut s (HaltWith n) h = refl
-doing-steps x goal cut s (Equal a b) h = refl
+doing-steps x goal cut s (Builtin row args) h = refl
 doing-steps x goal cut s (User i) h = refl
 
 pub taken-steps : (x : Setting) (s : State) (a : Alternative) → is_alternative a ≡ true → taken x s a ≡ stepping x s (resuming a)

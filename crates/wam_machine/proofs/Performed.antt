@@ -12,7 +12,7 @@ use Rattle.wam_machine.specs.Machine.{Setting, performing}
 use Rattle.wam_machine.specs.Goals.{IsSimple, control_in}
 use Rattle.wam_machine.specs.View.{state_of, performs_goal, GoesOn, ComesToEnd, Does, IsHeld}
 use Rattle.wam_machine.specs.declared.control.Control.{Control}
-use Rattle.wam_machine.specs.declared.control.Control.TheVariants.{True, Fail, Cut, Repeat, Both, Either, IfElse, If, Not, Call, Once, Catch, Throw, Halt, HaltWith, Equal, User}
+use Rattle.wam_machine.specs.declared.control.Control.TheVariants.{True, Fail, Cut, Repeat, Both, Either, IfElse, If, Not, Call, Once, Catch, Throw, Halt, HaltWith, Builtin, User}
 use Rattle.wam_machine.specs.declared.run.RunEnd.{RunEnd}
 use Rattle.wam_machine.specs.declared.run.RunEnd.TheVariants.{Spent}
 use Rattle.wam_machine.specs.declared.state.Machine.{Machine}
@@ -51,7 +51,7 @@ takes_step tree (Catch g c r) h = tt
 takes_step tree (Throw b) h = tt
 takes_step tree Halt h = tt
 takes_step tree (HaltWith n) h = tt
-takes_step tree (Equal a b) h = tt
+takes_step tree (Builtin row args) h = tt
 takes_step tree (User i) h = tt
 
 module _ {C : Type 0} (rest : C → Goal → Journal → List ℕ) (may : C → Goal → Journal → ℕ) (at : C → ℕ) (ahead : C → ℕ) (causes : List ℕ)

@@ -7,7 +7,8 @@ use Rattle.prolog_terms.specs.Clauses.{is_named, call_term}
 use Rattle.prolog_terms.specs.Substitutions.{renamed, beyond}
 use Rattle.std.proofs.lemmas.Bool.{ltb-true}
 use Rattle.term_unifier.specs.Unifier.{unifier}
-use Rattle.wam_machine.specs.Control.{Control, True, Fail, Cut, Repeat, Both, Either, IfElse, If, Not, Call, Once, Catch, Throw, Halt, HaltWith, Equal, User, control_of, control_with_none, control_with_one, control_of_either, control_with_two, control_with_three, control_with_more}
+use Rattle.term_builtins.specs.Table.{builtins, place_in}
+use Rattle.wam_machine.specs.Control.{Control, True, Fail, Cut, Repeat, Both, Either, IfElse, If, Not, Call, Once, Catch, Throw, Halt, HaltWith, Builtin, User, control_of, control_with_none, control_with_one, control_of_either, control_with_two, control_with_three, control_with_more, plain, builtin_or_user}
 use Rattle.wam_machine.specs.declared.run.RunEnd.{RunEnd}
 use Rattle.wam_machine.specs.declared.run.RunEnd.TheVariants.{Exhausted, Ball, Spent}
 use Rattle.wam_machine.specs.Machine.{Next, Do, ConditionEnd, NotEnd, CatchEnd, Alternative, Clauses, Right, Again, NotMark, CatchMark, Choice, Mode, Going, Failing, Raising, State, Setting, Report, Outcome, Goes, Ends, Unfit, no_more, made_all, over, stepping, onwards, height, cut_to, cut_back, bound_further, active_catch, recovering, reaching, reached, caught, trying, repeating, performing, doing, goal_move, answer, back_to, taken, move, Runs, ends, goes, beginning, Misfits, unfit, later, HasTranscript}
@@ -70,13 +71,21 @@ choose : (w : ℕ) (b : Bool) (c d : Control) → Lighter w c → Lighter w d �
 choose w true c d k l = k
 choose w false c d k l = l
 
+light_plain : (w : ℕ) (f : List ℕ) (args : Trees) → Lighter w (plain f args)
+unfolding plain
+light_plain w f args = go (place_in builtins f (count args))
+  where
+    go : (o : Option ℕ) → Lighter w (builtin_or_user o f args)
+    go None = λ a b e. cc e
+    go (Some row) = λ a b e. cc e
+
 light_none : (w : ℕ) (n : List ℕ) → Lighter w (control_with_none n)
 light_none w n =
     choose w (is_named (codes "true") n) _ _ (λ a b e. cc e) (
     choose w (is_named (codes "fail") n) _ _ (λ a b e. cc e) (
     choose w (is_named (codes "!") n) _ _ (λ a b e. cc e) (
     choose w (is_named (codes "repeat") n) _ _ (λ a b e. cc e) (
-    choose w (is_named (codes "halt") n) _ _ (λ a b e. cc e) (λ a b e. cc e)))))
+    choose w (is_named (codes "halt") n) _ _ (λ a b e. cc e) (light_plain w n none)))))
 
 light_both : (a b : Tree) → Lighter (suc (weight a + (weight b + 0))) (Both a b)
 light_both a b c d e = go (left e) (right e)
@@ -105,29 +114,28 @@ light_one w f t =
     choose w (is_named (codes "once") f) _ _ (λ a b e. cc e) (
     choose w (is_named (codes "\\+") f) _ _ (λ a b e. cc e) (
     choose w (is_named (codes "throw") f) _ _ (λ a b e. cc e) (
-    choose w (is_named (codes "halt") f) _ _ (λ a b e. cc e) (λ a b e. cc e)))))
+    choose w (is_named (codes "halt") f) _ _ (λ a b e. cc e) (light_plain w f (more t none))))))
 
 light_two : (f : List ℕ) (t u : Tree) → Lighter (suc (weight t + (weight u + 0))) (control_with_two f t u)
 light_two f t u =
     choose _ (is_named (codes ",") f) _ _ (light_both t u) (
     choose _ (is_named (codes ";") f) _ _ (light_either _ t u) (
     choose _ (is_named (codes "->") f) _ _ (λ a b e. cc e) (
-    choose _ (is_named (codes "=") f) _ _ (λ a b e. cc e) (
-    choose _ (is_named (codes "call") f) _ _ (λ a b e. cc e) (λ a b e. cc e)))))
+    choose _ (is_named (codes "call") f) _ _ (λ a b e. cc e) (light_plain _ f (more t (more u none))))))
 
 light_three : (w : ℕ) (f : List ℕ) (t u v : Tree) → Lighter w (control_with_three f t u v)
 light_three w f t u v =
     choose w (is_named (codes "catch") f) _ _ (λ a b e. cc e) (
-    choose w (is_named (codes "call") f) _ _ (λ a b e. cc e) (λ a b e. cc e))
+    choose w (is_named (codes "call") f) _ _ (λ a b e. cc e) (light_plain w f (more t (more u (more v none)))))
 
 light_more : (w : ℕ) (f : List ℕ) (t : Tree) (ts : Trees) → Lighter w (control_with_more f t ts)
-light_more w f t ts = choose w (is_named (codes "call") f && nat_lt (count ts) 8) _ _ (λ a b e. cc e) (λ a b e. cc e)
+light_more w f t ts = choose w (is_named (codes "call") f && nat_lt (count ts) 8) _ _ (λ a b e. cc e) (light_plain w f (more t ts))
 
 light : (g a b : Tree) → control_of g ≡ Some (Both a b) → weight a + weight b < weight g
 light (variable v) a b e = absurd (cc e)
 light (integer i) a b e = absurd (cc e)
 light (atom n) a b e = light_none 1 n a b (cc e)
-light (compound f none) a b e = absurd (cc e)
+light (compound f none) a b e = light_plain _ f none a b (cc e)
 light (compound f (more t none)) a b e = light_one _ f t a b (cc e)
 light (compound f (more t (more u none))) a b e = light_two f t u a b (cc e)
 light (compound f (more t (more u (more v none)))) a b e = light_three _ f t u v a b (cc e)
@@ -165,7 +173,7 @@ doing_good x goal cut s r (Catch g c f) e next = inl (performed x goal cut s r (
 doing_good x goal cut s r (Throw b) e next = inl (performed x goal cut s r (Throw b) e)
 doing_good x goal cut s r Halt e next = inl (performed x goal cut s r Halt e)
 doing_good x goal cut s r (HaltWith n) e next = inl (performed x goal cut s r (HaltWith n) e)
-doing_good x goal cut s r (Equal a b) e next = inl (performed x goal cut s r (Equal a b) e)
+doing_good x goal cut s r (Builtin row args) e next = inl (performed x goal cut s r (Builtin row args) e)
 doing_good x goal cut s r (User i) e next = inl (performed x goal cut s r (User i) e)
 
 goal_good : (x : Setting) (goal : Tree) (cut : ℕ) (s r : State) (o : Option Control) → r.steps ≡ s.steps → ((a b : Tree) → o ≡ Some (Both a b) → Settles x (record r { goals = Do a cut ∷ Do b cut ∷ r.goals })) → Good x s (goal_move x goal cut r o)

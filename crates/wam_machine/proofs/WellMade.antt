@@ -15,10 +15,12 @@ use Rattle.journal_base.specs.Journal.{Journal, number_of, clause_named, added}
 use Rattle.journal_base.specs.Candidates.{candidates}
 use Rattle.journal_base.specs.Keys.{keys}
 use Rattle.term_unifier.specs.Unifier.{unifier}
-use Rattle.wam_machine.specs.Control.{Control, True, Fail, Cut, Repeat, Both, Either, IfElse, If, Not, Call, Once, Catch, Throw, Halt, HaltWith, Equal, User, control_of, control_with_none, control_with_one, control_of_either, control_with_two, control_with_three, control_with_more, or_call, first_body, with_added, is_true_atom}
+use Rattle.term_builtins.specs.Meanings.{Meaning, Holds, Equates, Raises}
+use Rattle.term_builtins.specs.Table.{builtins, place_in}
+use Rattle.wam_machine.specs.Control.{Control, True, Fail, Cut, Repeat, Both, Either, IfElse, If, Not, Call, Once, Catch, Throw, Halt, HaltWith, Builtin, User, control_of, control_with_none, control_with_one, control_of_either, control_with_two, control_with_three, control_with_more, or_call, first_body, with_added, is_true_atom, builtin_or_user, plain}
 use Rattle.wam_machine.specs.declared.run.RunEnd.{RunEnd}
 use Rattle.wam_machine.specs.declared.run.RunEnd.TheVariants.{Exhausted, Ball, Spent, Halted}
-use Rattle.wam_machine.specs.Machine.{Next, Do, ConditionEnd, NotEnd, CatchEnd, Alternative, Clauses, Right, Again, NotMark, CatchMark, Choice, Mode, Going, Failing, Raising, State, Setting, Outcome, Goes, Ends, Unfit, no_more, made_all, over, stepping, onwards, pushed, height, next_under, solving, numbering, body_from, entering, leaving, trying, candidate_clauses, looked, called, calling, call_with, raises, running, calling_added, denying, catching, throwing, halting, cut_back, active_catch, recovering, reaching, reached, caught, repeating, performing, doing, going, back_to, taken, failing, raising, move, beginning, CanBeDone, HasBody, CanBeTaken, CanGoBack, IsWellMade, HasBodies, GoalsAreBodies}
+use Rattle.wam_machine.specs.Machine.{Next, Do, ConditionEnd, NotEnd, CatchEnd, Alternative, Clauses, Right, Again, NotMark, CatchMark, Choice, Mode, Going, Failing, Raising, State, Setting, Outcome, Goes, Ends, Unfit, no_more, made_all, over, stepping, onwards, pushed, height, next_under, solving, numbering, body_from, entering, leaving, trying, candidate_clauses, looked, called, calling, call_with, raises, running, calling_added, denying, catching, throwing, halting, cut_back, active_catch, recovering, reaching, reached, caught, repeating, performing, doing, going, back_to, taken, failing, raising, move, beginning, CanBeDone, HasBody, CanBeTaken, CanGoBack, IsWellMade, HasBodies, GoalsAreBodies, coming_to, calling_builtin}
 use Rattle.prolog_terms.proofs.Converted.{both_true, first_true, second_true, is_converted}
 
 -- ---- bodies
@@ -55,24 +57,32 @@ HasParts (Catch g c r) = Unit {0}
 HasParts (Throw b) = Unit {0}
 HasParts Halt = Unit {0}
 HasParts (HaltWith n) = Unit {0}
-HasParts (Equal a b) = Unit {0}
+HasParts (Builtin row args) = Unit {0}
 HasParts (User i) = Unit {0}
 
 choose : (b : Bool) (c d : Control) → HasParts c → HasParts d → HasParts (if b then c else d)
 choose true c d h k = h
 choose false c d h k = k
 
+builtin_or_user-parts : (o : Option ℕ) (f : List ℕ) (args : Trees) → HasParts (builtin_or_user o f args)
+builtin_or_user-parts None f args = tt
+builtin_or_user-parts (Some row) f args = tt
+
+plain_parts : (f : List ℕ) (args : Trees) → HasParts (plain f args)
+unfolding plain
+plain_parts f args = builtin_or_user-parts (place_in builtins f (count args)) f args
+
 none_parts : (a : List ℕ) → HasParts (control_with_none a)
-none_parts a = choose (is_named (codes "true") a) _ _ tt (choose (is_named (codes "fail") a) _ _ tt (choose (is_named (codes "!") a) _ _ tt (choose (is_named (codes "repeat") a) _ _ tt (choose (is_named (codes "halt") a) _ _ tt tt))))
+none_parts a = choose (is_named (codes "true") a) _ _ tt (choose (is_named (codes "fail") a) _ _ tt (choose (is_named (codes "!") a) _ _ tt (choose (is_named (codes "repeat") a) _ _ tt (choose (is_named (codes "halt") a) _ _ tt (plain_parts a none)))))
 
 one_parts : (f : List ℕ) (a : Tree) → HasParts (control_with_one f a)
-one_parts f a = choose (is_named (codes "call") f) _ _ tt (choose (is_named (codes "once") f) _ _ tt (choose (is_named (codes "\\+") f) _ _ tt (choose (is_named (codes "throw") f) _ _ tt (choose (is_named (codes "halt") f) _ _ tt tt))))
+one_parts f a = choose (is_named (codes "call") f) _ _ tt (choose (is_named (codes "once") f) _ _ tt (choose (is_named (codes "\\+") f) _ _ tt (choose (is_named (codes "throw") f) _ _ tt (choose (is_named (codes "halt") f) _ _ tt (plain_parts f (more a none))))))
 
 three_parts : (f : List ℕ) (a b c : Tree) → HasParts (control_with_three f a b c)
-three_parts f a b c = choose (is_named (codes "catch") f) _ _ tt (choose (is_named (codes "call") f) _ _ tt tt)
+three_parts f a b c = choose (is_named (codes "catch") f) _ _ tt (choose (is_named (codes "call") f) _ _ tt (plain_parts f (more a (more b (more c none)))))
 
 more_parts : (f : List ℕ) (a : Tree) (ts : Trees) → HasParts (control_with_more f a ts)
-more_parts f a ts = choose (is_named (codes "call") f && nat_lt (count ts) 8) _ _ tt tt
+more_parts f a ts = choose (is_named (codes "call") f && nat_lt (count ts) 8) _ _ tt (plain_parts f (more a ts))
 
 condition_parts : (f : List ℕ) (c t e : Tree) (p q r : Bool) → (if p || (q || r) then is_body c && is_body t else true) ≡ true → is_body (two f c t) ≡ true → is_body e ≡ true
     → HasParts (if r then IfElse c t e else Either (two f c t) e)
@@ -99,16 +109,16 @@ connected_parts a b d false false false k h = k
 
 two_parts : (f : List ℕ) (a b : Tree) → is_body (two f a b) ≡ true → HasParts (control_with_two f a b)
 two_parts f a b h =
-    connected_parts a b (if is_named (codes "=") f then Equal a b else if is_named (codes "call") f then Call a (more b none) else User (record { name = f; arity = 2 }))
+    connected_parts a b (if is_named (codes "call") f then Call a (more b none) else plain f (more a (more b none)))
     (is_named (codes ",") f) (is_named (codes ";") f) (is_named (codes "->") f)
-    (choose (is_named (codes "=") f) _ _ tt (choose (is_named (codes "call") f) _ _ tt tt)) h
+    (choose (is_named (codes "call") f) _ _ tt (plain_parts f (more a (more b none)))) h
 
 -- a body is a goal, and what it is made of are bodies
 pub parts : (g : Tree) → is_body g ≡ true → (c : Control) × (control_of g ≡ Some c) × HasParts c
 parts (variable n) h = absurd cc
 parts (integer z) h = absurd cc
 parts (atom a) h = (control_with_none a, refl, none_parts a)
-parts (compound f none) h = (User (record { name = f; arity = 0 }), refl, tt)
+parts (compound f none) h = (plain f none, refl, plain_parts f none)
 parts (compound f (more a none)) h = (control_with_one f a, refl, one_parts f a)
 parts (compound f (more a (more b none))) h = (control_with_two f a b, refl, two_parts f a b h)
 parts (compound f (more a (more b (more c none)))) h = (control_with_three f a b c, refl, three_parts f a b c)
@@ -138,6 +148,16 @@ all_under-done m (n ∷ ns) h = All-cons CanBeDone (next_under m n) (map (next_u
 solving-makes : (new : List Next) (s : State) (o : Option (ℕ → Tree)) → All CanBeDone new → IsWellMade s → Makes (solving new s o)
 solving-makes new s None n h = record { goals = h.goals; stack = h.stack }
 solving-makes new s (Some m) n h = record { goals = all_under-done m (new ++ s.goals) (All-append CanBeDone new s.goals n h.goals); stack = h.stack }
+
+coming_to-makes : (at : Indicator) (s : State) (m : Meaning) → IsWellMade s → Makes (coming_to at s m)
+coming_to-makes at s (Holds true) h = h
+coming_to-makes at s (Holds false) h = record { goals = h.goals; stack = h.stack }
+coming_to-makes at s (Equates added a b) h = solving-makes [] (record s { fresh = s.fresh + added }) (unifier a b) (All-nil CanBeDone) (record { goals = h.goals; stack = h.stack })
+coming_to-makes at s (Raises fault) h = record { goals = h.goals; stack = h.stack }
+
+builtin-makes : (row : ℕ) (args : Trees) (s : State) → IsWellMade s → Makes (calling_builtin row args s)
+unfolding calling_builtin
+builtin-makes row args s h = coming_to-makes _ s _ h
 
 -- one more first
 first_done : (g : Tree) (cut : ℕ) (ns : List Next) → is_body g ≡ true → All CanBeDone ns → All CanBeDone (Do g cut ∷ ns)
@@ -274,7 +294,7 @@ performing-makes x goal cut (Catch g c r) s b p h = catching-makes g c r s (body
 performing-makes x goal cut (Throw t) s b p h = throwing-makes t s h
 performing-makes x goal cut Halt s b p h = over-makes x s (Halted (pos 0))
 performing-makes x goal cut (HaltWith n) s b p h = halting-makes x n s h
-performing-makes x goal cut (Equal l r) s b p h = solving-makes [] s (unifier l r) (All-nil CanBeDone) h
+performing-makes x goal cut (Builtin row args) s b p h = builtin-makes row args s h
 performing-makes x goal cut (User i) s b p h = calling-makes x s goal i b h
 
 stepping-makes : (x : Setting) (s : State) (then_ : State → Outcome) → Makes (then_ (record s { steps = suc s.steps })) → Makes (stepping x s then_)
@@ -303,7 +323,7 @@ doing-makes x goal cut s (Catch g c r) b p h = performed-makes x goal cut s (Cat
 doing-makes x goal cut s (Throw t) b p h = performed-makes x goal cut s (Throw t) b p h
 doing-makes x goal cut s Halt b p h = performed-makes x goal cut s Halt b p h
 doing-makes x goal cut s (HaltWith n) b p h = performed-makes x goal cut s (HaltWith n) b p h
-doing-makes x goal cut s (Equal l r) b p h = performed-makes x goal cut s (Equal l r) b p h
+doing-makes x goal cut s (Builtin row args) b p h = performed-makes x goal cut s (Builtin row args) b p h
 doing-makes x goal cut s (User i) b p h = performed-makes x goal cut s (User i) b p h
 
 going-makes : (x : Setting) (s : State) (gs : List Next) → HasBodies x.journal → All CanBeDone gs → IsWellMade s → Makes (going x s gs)

@@ -1,9 +1,10 @@
 -- What a goal is, and which terms are bodies (docs/LANGUAGE.md, "Goals and steps"; ISO/IEC 13211-1, 7.6.2 and 7.8).
-use Rattle.std.specs.Prelude.{ℕ, ◌+◌, Bool, false, ◌&&◌, List, [], ◌∷◌, if◌then◌else◌, nat_lt, Option, Some, None, codes}
+use Rattle.std.specs.Prelude.{ℕ, Bool, false, ◌&&◌, List, [], ◌∷◌, if◌then◌else◌, nat_lt, Option, Some, None, codes}
 use Rattle.prolog_terms.specs.Tree.{Tree, Trees, variable, integer, atom, compound, none, more, count}
 use Rattle.prolog_terms.specs.Clauses.{is_named, call_term, body_of}
 use Rattle.prolog_terms.specs.Faults.{two}
 use Rattle.prolog_terms.specs.declared.entry.Indicator.{Indicator}
+use Rattle.term_builtins.specs.Table.{builtins, place_in}
 
 pub data Control : Type 0 where
   True : Control
@@ -32,10 +33,18 @@ pub data Control : Type 0 where
   Halt : Control
   -- the run is ended, with a number
   HaltWith : (code : Tree) → Control
-  -- two terms are to be made one
-  Equal : (left right : Tree) → Control
+  -- a builtin on terms, by its place in the table, with its arguments
+  Builtin : (row : ℕ) (args : Trees) → Control
   -- any other goal, by its name and arity
   User : Indicator → Control
+
+-- what is no control construct: a builtin where the table has its name and arity, and else the call of a procedure
+abbrev pub builtin_or_user : Option ℕ → List ℕ → Trees → Control
+builtin_or_user None f args = User (record { name = f; arity = count args })
+builtin_or_user (Some row) f args = Builtin row args
+
+unfoldable pub plain : List ℕ → Trees → Control
+plain f args = builtin_or_user (place_in builtins f (count args)) f args
 
 abbrev pub control_with_none : List ℕ → Control
 control_with_none a =
@@ -44,7 +53,7 @@ control_with_none a =
     else if is_named (codes "!") a then Cut
     else if is_named (codes "repeat") a then Repeat
     else if is_named (codes "halt") a then Halt
-    else User (record { name = a; arity = 0 })
+    else plain a none
 
 abbrev pub control_with_one : List ℕ → Tree → Control
 control_with_one f a =
@@ -53,7 +62,7 @@ control_with_one f a =
     else if is_named (codes "\\+") f then Not a
     else if is_named (codes "throw") f then Throw a
     else if is_named (codes "halt") f then HaltWith a
-    else User (record { name = f; arity = 1 })
+    else plain f (more a none)
 
 -- a `;`: a condition with an else where the left side is a `->`
 abbrev pub control_of_either : Tree → Tree → Control
@@ -70,26 +79,25 @@ control_with_two f a b =
     if is_named (codes ",") f then Both a b
     else if is_named (codes ";") f then control_of_either a b
     else if is_named (codes "->") f then If a b
-    else if is_named (codes "=") f then Equal a b
     else if is_named (codes "call") f then Call a (more b none)
-    else User (record { name = f; arity = 2 })
+    else plain f (more a (more b none))
 
 abbrev pub control_with_three : List ℕ → Tree → Tree → Tree → Control
 control_with_three f a b c =
     if is_named (codes "catch") f then Catch a b c
     else if is_named (codes "call") f then Call a (more b (more c none))
-    else User (record { name = f; arity = 3 })
+    else plain f (more a (more b (more c none)))
 
 -- with four arguments or more: `call` takes up to seven beside its goal
 abbrev pub control_with_more : List ℕ → Tree → Trees → Control
-control_with_more f a ts = if is_named (codes "call") f && nat_lt (count ts) 8 then Call a ts else User (record { name = f; arity = count ts + 1 })
+control_with_more f a ts = if is_named (codes "call") f && nat_lt (count ts) 8 then Call a ts else plain f (more a ts)
 
 -- what a goal is; none for a variable and a number
 abbrev pub control_of : Tree → Option Control
 control_of (variable n) = None
 control_of (integer z) = None
 control_of (atom a) = Some (control_with_none a)
-control_of (compound f none) = Some (User (record { name = f; arity = 0 }))
+control_of (compound f none) = Some (plain f none)
 control_of (compound f (more a none)) = Some (control_with_one f a)
 control_of (compound f (more a (more b none))) = Some (control_with_two f a b)
 control_of (compound f (more a (more b (more c none)))) = Some (control_with_three f a b c)

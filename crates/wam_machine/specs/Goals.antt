@@ -6,13 +6,14 @@ use Rattle.prolog_terms.specs.declared.fault.Fault.TheVariants.{Instantiation, R
 use Rattle.term_store.specs.declared.cell.Cell.{Cell}
 use Rattle.term_store.specs.Shape.{Shape}
 use Rattle.term_store.specs.Terms.{text, trees_of, HasTerm}
+use Rattle.term_builtins.specs.Table.{builtins}
 use Rattle.wam_machine.specs.Control as spec
-use Rattle.wam_machine.specs.Control.{control_of, control_of_either}
+use Rattle.wam_machine.specs.Control.{control_of, control_of_either, plain}
 use Rattle.wam_machine.specs.Spine.{Part, Leaf, Joint, is_plain_goal}
 use Rattle.wam_machine.specs.Machine.{State, calling_added, raises, running, call_with}
 use Rattle.wam_machine.specs.Terms.{IsGoal, IsBuilt, built}
 use Rattle.wam_machine.specs.declared.control.Control.{Control}
-use Rattle.wam_machine.specs.declared.control.Control.TheVariants.{True, Fail, Cut, Repeat, Both, Either, IfElse, If, Not, Call, Once, Catch, Throw, Halt, HaltWith, Equal, User}
+use Rattle.wam_machine.specs.declared.control.Control.TheVariants.{True, Fail, Cut, Repeat, Both, Either, IfElse, If, Not, Call, Once, Catch, Throw, Halt, HaltWith, Builtin, User}
 use Rattle.wam_machine.specs.declared.bodies.Kind.{Kind}
 use Rattle.wam_machine.specs.declared.bodies.Kind.TheVariants as kind
 use Rattle.wam_machine.specs.declared.bodies.Part.{Part as Met}
@@ -40,10 +41,10 @@ control_in tree (Catch g c r) = spec.Catch (tree g) (tree c) (tree r)
 control_in tree (Throw b) = spec.Throw (tree b)
 control_in tree Halt = spec.Halt
 control_in tree (HaltWith n) = spec.HaltWith (tree n)
-control_in tree (Equal a b) = spec.Equal (tree a) (tree b)
+control_in tree (Builtin row args) = spec.Builtin row (trees_of tree args.items)
 control_in tree (User i) = spec.User i
 
--- so it is of its cells; at most seven arguments are added
+-- so it is of its cells; at most seven arguments are added, and a builtin is one of the table
 abbrev pub AreAmong : (Cell → Type 0) → Control → Type 0
 AreAmong P True = Unit {0}
 AreAmong P Fail = Unit {0}
@@ -60,7 +61,7 @@ AreAmong P (Catch g c r) = P g × P c × P r
 AreAmong P (Throw b) = P b
 AreAmong P Halt = Unit {0}
 AreAmong P (HaltWith n) = P n
-AreAmong P (Equal a b) = P a × P b
+AreAmong P (Builtin row args) = (row < length builtins) × All P args.items
 AreAmong P (User i) = Unit {0}
 
 -- cells that are done as goals
@@ -80,12 +81,17 @@ AreGoals P (Catch g c r) = Unit {0}
 AreGoals P (Throw b) = Unit {0}
 AreGoals P Halt = Unit {0}
 AreGoals P (HaltWith n) = Unit {0}
-AreGoals P (Equal a b) = Unit {0}
+AreGoals P (Builtin row args) = Unit {0}
 AreGoals P (User i) = Unit {0}
 
 -- A goal, by the terms of these cells, is found to be this, whichever terms they have.
 pub record IsFound (cells : List Cell) (goal : (Cell → Tree) → Tree) (c : Control) : Type 0 where
   pub is : (tree : Cell → Tree) → control_of (goal tree) ≡ Some (control_in tree c)
+  pub among : (count : ℕ) (s : Shape) → All (HasTerm count s) cells → AreAmong (HasTerm count s) c
+
+-- What is no control construct is found to be this, whichever terms these cells have.
+pub record IsPlain (name : List ℕ) (cells : List Cell) (c : Control) : Type 0 where
+  pub is : (tree : Cell → Tree) → plain name (trees_of tree cells) ≡ control_in tree c
   pub among : (count : ℕ) (s : Shape) → All (HasTerm count s) cells → AreAmong (HasTerm count s) c
 
 -- the same by the terms that the cells have now
@@ -122,7 +128,7 @@ IsConstruct (Catch g c r) = Unit {0}
 IsConstruct (Throw b) = Unit {0}
 IsConstruct Halt = ⊥
 IsConstruct (HaltWith n) = ⊥
-IsConstruct (Equal a b) = Unit {0}
+IsConstruct (Builtin row args) = Unit {0}
 IsConstruct (User i) = ⊥
 
 -- no conjunction
@@ -142,7 +148,7 @@ IsSimple (Catch g c r) = Unit {0}
 IsSimple (Throw b) = Unit {0}
 IsSimple Halt = Unit {0}
 IsSimple (HaltWith n) = Unit {0}
-IsSimple (Equal a b) = Unit {0}
+IsSimple (Builtin row args) = Unit {0}
 IsSimple (User i) = Unit {0}
 
 -- ---- bodies

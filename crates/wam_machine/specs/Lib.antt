@@ -3,6 +3,7 @@ pub mod Spine
 pub mod Machine
 pub mod Runs
 pub mod Terms
+pub mod Called
 pub mod Choices
 pub mod Goals
 pub mod Balls

@@ -22,7 +22,10 @@ use Rattle.journal_base.specs.Candidates.{candidates}
 use Rattle.journal_base.specs.Calls.{Goal}
 use Rattle.journal_base.specs.View.{entries_by}
 use Rattle.term_unifier.specs.Unifier.{unifier}
-use Rattle.wam_machine.specs.Control.{Control, True, Fail, Cut, Repeat, Both, Either, IfElse, If, Not, Call, Once, Catch, Throw, Halt, HaltWith, Equal, User, control_of, first_body, with_added, body_goals}
+use Rattle.term_builtins.specs.Meanings.{Meaning, Holds, Equates, Raises, meaning}
+use Rattle.term_builtins.specs.Table.{builtins, indicator}
+use Rattle.term_builtins.specs.Answers.{row_at}
+use Rattle.wam_machine.specs.Control.{Control, True, Fail, Cut, Repeat, Both, Either, IfElse, If, Not, Call, Once, Catch, Throw, Halt, HaltWith, Builtin, User, control_of, first_body, with_added, body_goals}
 use Rattle.wam_machine.specs.declared.run.Event.{Event}
 use Rattle.wam_machine.specs.declared.run.Event.TheVariants.{Answer}
 use Rattle.wam_machine.specs.declared.run.RunEnd.{RunEnd}
@@ -289,6 +292,19 @@ halting x (integer z) s = over x s (Halted z)
 halting x (atom a) s = raises (not_integer (atom a)) halt_with s
 halting x (compound f ts) s = raises (not_integer (compound f ts)) halt_with s
 
+-- ---- builtins on terms
+
+-- what a builtin's call comes to is done; its errors stand at its own name and arity
+abbrev pub coming_to : Indicator → State → Meaning → Outcome
+coming_to at s (Holds true) = Goes s
+coming_to at s (Holds false) = fails s
+coming_to at s (Equates added a b) = equating a b [] (record s { fresh = s.fresh + added })
+coming_to at s (Raises fault) = raises fault at s
+
+-- the builtin at a place of the table
+unfoldable pub calling_builtin : ℕ → Trees → State → Outcome
+calling_builtin row args s = coming_to (indicator (row_at builtins row)) s (meaning (row_at builtins row).what s.fresh args)
+
 -- ---- goals
 
 abbrev pub repeating : State → Outcome
@@ -312,7 +328,7 @@ performing x goal cut (Catch g c r) s = catching g c r s (body_of g)
 performing x goal cut (Throw b) s = throwing b s
 performing x goal cut Halt s = over x s (Halted (pos 0))
 performing x goal cut (HaltWith n) s = halting x n s
-performing x goal cut (Equal a b) s = equating a b [] s
+performing x goal cut (Builtin row args) s = calling_builtin row args s
 performing x goal cut (User i) s = calling x s goal i
 
 -- a conjunction takes no step, and every other goal takes one
@@ -332,7 +348,7 @@ doing x goal cut s (Catch g c r) = stepping x s (performing x goal cut (Catch g 
 doing x goal cut s (Throw b) = stepping x s (performing x goal cut (Throw b))
 doing x goal cut s Halt = stepping x s (performing x goal cut Halt)
 doing x goal cut s (HaltWith n) = stepping x s (performing x goal cut (HaltWith n))
-doing x goal cut s (Equal a b) = stepping x s (performing x goal cut (Equal a b))
+doing x goal cut s (Builtin row args) = stepping x s (performing x goal cut (Builtin row args))
 doing x goal cut s (User i) = stepping x s (performing x goal cut (User i))
 
 abbrev pub goal_move : Setting → Tree → ℕ → State → Option Control → Outcome

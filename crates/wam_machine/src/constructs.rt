@@ -5,7 +5,8 @@ ghost use Rattle.prolog_terms.specs.Tree.{Tree, atom};
 ghost use Rattle.prolog_terms.specs.Faults.{two};
 ghost use Rattle.prolog_terms.specs.Clauses.{body_of, call_term, is_body};
 ghost use Rattle.term_store.specs.Terms.{trees_of};
-ghost use Rattle.wam_machine.specs.Machine.{Setting, State, Do, ConditionEnd, NotEnd, Right, NotMark, performing, onwards, pushed, height as height_of, fails, repeating, equating, running, denying, catching, throwing, calling_added, CatchMark, CatchEnd};
+ghost use Rattle.term_builtins.specs.Table.{builtins};
+ghost use Rattle.wam_machine.specs.Machine.{Setting, State, Do, ConditionEnd, NotEnd, Right, NotMark, performing, onwards, pushed, height as height_of, fails, repeating, calling_builtin, running, denying, catching, throwing, calling_added, CatchMark, CatchEnd};
 ghost use Rattle.wam_machine.specs.Terms.{AreTerms, IsGoal, IsBuilt, said, built};
 ghost use Rattle.wam_machine.specs.Goals.{AreAmong, AreGoals, IsConstruct, control_in};
 ghost use Rattle.wam_machine.specs.View.{Acts, calls, settled_mode};
@@ -13,9 +14,9 @@ ghost use Rattle.wam_machine.specs.View.{Acts, calls, settled_mode};
 use crate::balls::{Thrown, as_ball};
 use crate::bodies::body;
 use crate::build::{Added, add, once_goal};
+use crate::builtins::{Called, call_row};
 use crate::choices::{height, make_place, save};
 use crate::control::Control;
-use crate::enter::equate as equate_terms;
 use crate::errors::{
     call_indicator, catch_indicator, not_indicator, too_many, unbound, unbound_ball, uncallable,
 };
@@ -57,7 +58,7 @@ pub(crate) fn construct<C>(
         Control::Throw(ball) => throw(machine, alloc, ball),
         Control::Halt => unreachable!(),
         Control::HaltWith(_) => unreachable!(),
-        Control::Equal(left, right) => equate(machine, left, right),
+        Control::Builtin(row, args) => builtin(machine, alloc, row, args.as_slice()),
         Control::Cut => unreachable!(),
         Control::Both(_, _) => unreachable!(),
         Control::User(_) => unreachable!(),
@@ -296,17 +297,30 @@ fn once<C>(machine: &mut Machine<C>, goal: Cell, cut: usize) -> Result<(), Want>
     push_next(&mut machine.terms, Next::Do(made, cut))
 }
 
-/// Makes two terms one, and else fails.
-fn equate<C>(machine: &mut Machine<C>, left: Cell, right: Cell) -> Result<(), Want>
+/// Calls a builtin on terms: it holds, fails, or raises a ball.
+fn builtin<C>(
+    machine: &mut Machine<C>,
+    alloc: Global,
+    row: usize,
+    args: &[Cell],
+) -> Result<(), Want>
     requires terms { AreTerms machine.old.terms }
-    requires left { IsBuilt machine.old.terms left }
-    requires right { IsBuilt machine.old.terms right }
-    ensures acts { OnOk result (Acts (equating (built machine.old.terms left) (built machine.old.terms right) []) machine.old machine.new) }
+    requires row { row < length builtins }
+    requires args { All (IsBuilt machine.old.terms) args.now }
+    ensures acts { OnOk result (Acts (calling_builtin row (trees_of (built machine.old.terms) args.now)) machine.old machine.new) }
     ensures err { OnErr result (calls machine.new ≡ calls machine.old) }
 {
-    let done = equate_terms(&mut machine.terms, left, right)?;
-    settle(machine, done);
-    Ok(())
+    match call_row(alloc, &mut machine.terms, row, args)? {
+        Called::Yes => Ok(()),
+        Called::No => {
+            machine.mode = Mode::Failing;
+            Ok(())
+        }
+        Called::Ball(ball) => {
+            machine.mode = Mode::Raising(ball);
+            Ok(())
+        }
+    }
 }
 
 /// Goes on where something was done, and else fails.

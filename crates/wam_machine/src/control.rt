@@ -5,11 +5,12 @@ ghost use Rattle.prolog_terms.specs.Clauses.{is_named};
 ghost use Rattle.term_store.specs.Terms.{trees_of};
 ghost use Rattle.wam_machine.specs.Control.{control_of};
 ghost use Rattle.wam_machine.specs.Terms.{AreTerms, IsGoal, IsBuilt, built};
-ghost use Rattle.wam_machine.specs.Goals.{IsControl, IsFound, IsFoundNow, IsArrow};
+ghost use Rattle.wam_machine.specs.Goals.{IsControl, IsFound, IsFoundNow, IsArrow, IsPlain};
 
 use crate::terms::Terms;
 use prolog_terms::{Indicator, Name, Want};
 use std::alloc::Global;
+use term_builtins::find_builtin;
 use term_store::{Cell, View};
 
 /// What a goal is: one that the machine does itself, or the call of a procedure.
@@ -41,8 +42,8 @@ pub(crate) enum Control {
     Halt,
     /// The run is ended with a number.
     HaltWith(Cell),
-    /// Two terms are to be made one.
-    Equal(Cell, Cell),
+    /// A builtin on terms, by its place in the table, with its arguments.
+    Builtin(usize, Vec<Cell>),
     /// Any other goal, by its name and arity.
     User(Indicator),
 }
@@ -83,7 +84,7 @@ fn atom_control(alloc: Global, name: &[u8]) -> Result<Control, Want>
     if name == b"halt".as_slice() {
         return Ok(Control::Halt);
     }
-    user(alloc, name, 0)
+    plain(alloc, name, &[])
 }
 
 /// What a compound of this name and these arguments is as a goal.
@@ -131,7 +132,7 @@ fn one_control(alloc: Global, name: &[u8], only: Cell) -> Result<Control, Want>
     if name == b"halt".as_slice() {
         return Ok(Control::HaltWith(only));
     }
-    user(alloc, name, 1)
+    plain(alloc, name, &[only])
 }
 
 /// What a compound of this name, which is not `;`, and these two arguments is as a goal.
@@ -145,15 +146,12 @@ fn two_control(alloc: Global, name: &[u8], left: Cell, right: Cell) -> Result<Co
     if name == b"->".as_slice() {
         return Ok(Control::If(left, right));
     }
-    if name == b"=".as_slice() {
-        return Ok(Control::Equal(left, right));
-    }
     if name == b"call".as_slice() {
         let mut added = Vec::new(alloc);
         added.push(right)?;
         return Ok(Control::Call(left, added));
     }
-    user(alloc, name, 2)
+    plain(alloc, name, &[left, right])
 }
 
 /// What a compound of this name and these three arguments is as a goal.
@@ -175,7 +173,7 @@ fn three_control(
         added.push(third)?;
         return Ok(Control::Call(first, added));
     }
-    user(alloc, name, 3)
+    plain(alloc, name, &[first, second, third])
 }
 
 /// What a compound of this name and four arguments or more is as a goal.
@@ -189,7 +187,7 @@ fn more_control(alloc: Global, name: &[u8], arguments: &[Cell]) -> Result<Contro
         added.extend_from_slice(&arguments[1..])?;
         return Ok(Control::Call(arguments[0], added));
     }
-    user(alloc, name, arguments.len() as u32)
+    plain(alloc, name, arguments)
 }
 
 /// What a `;` is as a goal: a condition with an else where its left side is a `->`.
@@ -223,6 +221,22 @@ fn arrow<C>(terms: &Terms<C>, cell: Cell) -> Option<(Cell, Cell)>
             _ => None,
         },
         _ => None,
+    }
+}
+
+/// What is no control construct: a builtin on terms, or the call of a procedure.
+fn plain(alloc: Global, name: &[u8], arguments: &[Cell]) -> Result<Control, Want>
+    requires few { length arguments.now ≤ 255 }
+    ensures { IfOk result (IsPlain name.now arguments.now) }
+{
+    let arity = arguments.len() as u32;
+    match find_builtin(name, arity) {
+        Some(row) => {
+            let mut args = Vec::new(alloc);
+            args.extend_from_slice(arguments)?;
+            Ok(Control::Builtin(row, args))
+        }
+        None => user(alloc, name, arity),
     }
 }
 

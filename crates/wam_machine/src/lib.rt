@@ -4,6 +4,7 @@
 mod balls;
 mod bodies;
 mod build;
+mod builtins;
 mod choices;
 mod constructs;
 mod control;

@@ -1,14 +1,12 @@
-use Rattle.std.proofs.Common.{sym, subst, [], codes}
+use Rattle.std.proofs.Common.{codes}
 use Rattle.std.proofs.lemmas.Result.{IfOk-weaker}
-use Rattle.prolog_terms.specs.Tree.{atom}
-use Rattle.wam_machine.specs.Goals.{IsFound}
-use Rattle.wam_machine.proofs.GoalParts.{tested, atom-user}
+use Rattle.wam_machine.proofs.GoalParts.{tested, atom-plain}
 use Rattle.wam_machine.proofs.control.atom_control.Goals as goal
 
 pub returns : goal.returns
 returns c =
     let a = c.args.name.now in
-    let found = atom-user a (tested a _ (codes "true") _ _ c.eq.ensures c.as_slice.ensures c.if-eq.false) (tested a _ (codes "fail") _ _ c.eq-2.ensures c.as_slice-2.ensures c.if-eq-2.false)
+    let found = atom-plain a (tested a _ (codes "true") _ _ c.eq.ensures c.as_slice.ensures c.if-eq.false) (tested a _ (codes "fail") _ _ c.eq-2.ensures c.as_slice-2.ensures c.if-eq-2.false)
     (tested a _ (codes "!") _ _ c.eq-3.ensures c.as_slice-3.ensures c.if-eq-3.false) (tested a _ (codes "repeat") _ _ c.eq-4.ensures c.as_slice-4.ensures c.if-eq-4.false)
     (tested a _ (codes "halt") _ _ c.eq-5.ensures c.as_slice-5.ensures c.if-eq-5.false) in
-    IfOk-weaker c.user.result _ _ (λ x e. subst (IsFound [] (λ tree. atom a)) (sym e) found) c.user.ensures
+    IfOk-weaker c.plain.result _ _ found c.plain.ensures

@@ -1,14 +1,11 @@
-use Rattle.std.proofs.Common.{◌≡◌, ◌-◌, ◌++◌, ◌∙◌, ap, sym, subst, arith, false, codes, length, drop, take, List, length-drop}
+use Rattle.std.proofs.Common.{◌≡◌, ◌-◌, ◌++◌, ◌∙◌, ap, arith, false, codes, length, drop, take, List, length-drop}
 use Rattle.std.specs.Prelude.{◌&&◌, nat_lt}
 use Rattle.std.proofs.lemmas.Result.{IfOk-weaker}
 use Rattle.std.proofs.lemmas.List.{take_all}
-use Rattle.prolog_terms.specs.Tree.{compound}
 use Rattle.prolog_terms.specs.Clauses.{is_named}
 use Rattle.term_store.specs.declared.cell.Cell.{Cell}
 use Rattle.term_store.specs.declared.cell.Cell.TheVariants.{Variable}
-use Rattle.term_store.specs.Terms.{trees_of}
-use Rattle.wam_machine.specs.Goals.{IsFound}
-use Rattle.wam_machine.proofs.GoalParts.{tested, many-arguments, other-name, more-call, more-user}
+use Rattle.wam_machine.proofs.GoalParts.{tested, many-arguments, other-name, more-call, more-plain}
 use Rattle.wam_machine.proofs.control.more_control.Goals as goal
 use Rattle.wam_machine.proofs.control.more_control.Goals.{else-eq-via-then-eq+else-arguments-le8, else-eq-via-else-eq}
 
@@ -28,4 +25,4 @@ returns c =
       | else-eq-via-then-eq+else-arguments-le8 w ↦ many-arguments (is_named (codes "call") f) (length args) w.if-arguments-le8.false
       | else-eq-via-else-eq w ↦ other-name (is_named (codes "call") f) (nat_lt (length args - 1) 8) (tested f _ (codes "call") _ _ c.eq.ensures c.as_slice.ensures w.if-eq.false)
     ] in
-    IfOk-weaker c.user.result _ _ (λ x e. subst (IsFound args (λ tree. compound f (trees_of tree args))) (sym e) (more-user f args c.requires.some no_call)) c.user.ensures
+    IfOk-weaker c.plain.result _ _ (more-plain f args c.requires.some no_call) c.plain.ensures

@@ -1,15 +1,13 @@
-use Rattle.std.proofs.Common.{sym, subst, ◌∷◌, [], codes}
+use Rattle.std.proofs.Common.{codes}
 use Rattle.std.proofs.lemmas.Result.{IfOk-weaker}
-use Rattle.prolog_terms.specs.Tree.{compound, more, none}
-use Rattle.wam_machine.specs.Goals.{IsFound}
-use Rattle.wam_machine.proofs.GoalParts.{tested, one-user}
+use Rattle.wam_machine.proofs.GoalParts.{tested, one-plain}
 use Rattle.wam_machine.proofs.control.one_control.Goals as goal
 
 pub returns : goal.returns
 returns c =
     let f = c.args.name.now in
     let only = c.args.only in
-    let found = one-user f only (tested f _ (codes "call") _ _ c.eq.ensures c.as_slice.ensures c.if-eq.false) (tested f _ (codes "once") _ _ c.eq-2.ensures c.as_slice-2.ensures c.if-eq-2.false)
+    let found = one-plain f only (tested f _ (codes "call") _ _ c.eq.ensures c.as_slice.ensures c.if-eq.false) (tested f _ (codes "once") _ _ c.eq-2.ensures c.as_slice-2.ensures c.if-eq-2.false)
     (tested f _ (codes "\\+") _ _ c.eq-3.ensures c.as_slice-3.ensures c.if-eq-3.false) (tested f _ (codes "throw") _ _ c.eq-4.ensures c.as_slice-4.ensures c.if-eq-4.false)
     (tested f _ (codes "halt") _ _ c.eq-5.ensures c.as_slice-5.ensures c.if-eq-5.false) in
-    IfOk-weaker c.user.result _ _ (λ x e. subst (IsFound (only ∷ []) (λ tree. compound f (more (tree only) none))) (sym e) found) c.user.ensures
+    IfOk-weaker c.plain.result _ _ found c.plain.ensures

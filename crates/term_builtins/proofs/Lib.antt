@@ -1,0 +1,16 @@
+mod Answered
+mod Bytewise
+mod Called
+mod Copied
+mod Done
+mod Functors
+mod Grown
+mod Halved
+mod Listed
+mod NewCells
+mod NewCompounds
+mod Pairs
+mod Signs
+mod Tabled
+mod Universal
+mod Views

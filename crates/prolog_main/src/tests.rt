@@ -1535,6 +1535,103 @@ const BUILTINS: [Row; 45] = [
     ),
 ];
 
+// Goals that write: what they wrote stands as it is, and a line is completed before an answer, before the end, and behind a
+// goal of the load.
+const OUTPUT: [Row; 22] = [
+    (
+        "",
+        &["write('a b'), nl, writeq('a b'), fail"],
+        0,
+        "% goal 1\na b\n'a b'\nfalse.\n",
+    ),
+    (
+        ":- initialization(main). main :- write(hello), nl.\n",
+        &[],
+        0,
+        "hello\n",
+    ),
+    (":- write(hello).\n", &[], 0, "hello\n"),
+    (":- write(a), fail.\n", &[], 0, "a\n% line 1: false.\n"),
+    (
+        ":- write(a).\n:- write(b), throw(c).\n",
+        &[],
+        1,
+        "a\nb\n% line 2: error: c.\n",
+    ),
+    (
+        ":- X = '===>'(a,b), writeq(X), nl.\n:- op(700, xfx, ===>).\n:- X = '===>'(a,b), writeq(X), nl.\n",
+        &[],
+        0,
+        "===>(a,b)\na===>b\n",
+    ),
+    (
+        ":- op(700, xfx, ===>).\n",
+        &["X = '===>'(a,b), write(X)"],
+        0,
+        "% goal 1\na===>b\nX = (a===>b).\n",
+    ),
+    ("", &["X = 1, write(X)"], 0, "% goal 1\n1\nX = 1.\n"),
+    ("", &["write(a), nl, X = b"], 0, "% goal 1\na\nX = b.\n"),
+    ("", &["nl, write(a)"], 0, "% goal 1\n\na\ntrue.\n"),
+    (
+        "",
+        &["(X = 1 ; X = 2), write(X)"],
+        0,
+        "% goal 1\n1\nX = 1 ;\n2\nX = 2.\n",
+    ),
+    (
+        "",
+        &["write(1+2*3), nl, write_canonical(1+2*3)"],
+        0,
+        "% goal 1\n1+2*3\n+(1,*(2,3))\ntrue.\n",
+    ),
+    (
+        "",
+        &["write_canonical([a,'B'|c]), write('B'), write({a,b}), write([])"],
+        0,
+        "% goal 1\n[a,'B'|c]B{a,b}[]\ntrue.\n",
+    ),
+    (
+        "",
+        &["writeq(f(X,Y,X))"],
+        0,
+        "% goal 1\nf(_1,_2,_1)\nX = _1, Y = _2.\n",
+    ),
+    (
+        "",
+        &["put_char(x), put_char('\\n')"],
+        0,
+        "% goal 1\nx\ntrue.\n",
+    ),
+    (
+        "",
+        &["put_char(X)"],
+        1,
+        "% goal 1\nerror: error(instantiation_error,put_char/1).\n",
+    ),
+    (
+        "",
+        &["put_char(ab)"],
+        1,
+        "% goal 1\nerror: error(type_error(character,ab),put_char/1).\n",
+    ),
+    ("", &["write(a), throw(b)"], 1, "% goal 1\na\nerror: b.\n"),
+    ("", &["write(a), halt"], 0, "% goal 1\na\nhalted with 0.\n"),
+    ("", &["\\+ (write(a), fail)"], 0, "% goal 1\na\ntrue.\n"),
+    (
+        "",
+        &["catch((write(a), throw(b)), X, (write(X), nl))"],
+        0,
+        "% goal 1\nab\nX = b.\n",
+    ),
+    (
+        "",
+        &["--steps", "1", "write(a), write(b)"],
+        7,
+        "% goal 1\na\nstopped after 1 steps.\n",
+    ),
+];
+
 // Values under the operators that there are from the start, worked out from the rules of the writer.
 const WRITTEN: [Row; 31] = [
     ("", &["X = 1 - (-1)"], 0, "% goal 1\nX = 1- -1.\n"),
@@ -1796,6 +1893,11 @@ fn answers_what_is_caught(rt: HostRuntime) {
 #[test]
 fn answers_the_builtins(rt: HostRuntime) {
     expect_rows(&rt, rt.alloc(), &BUILTINS);
+}
+
+#[test]
+fn answers_what_goals_write(rt: HostRuntime) {
+    expect_rows(&rt, rt.alloc(), &OUTPUT);
 }
 
 #[test]

@@ -2,7 +2,7 @@
 
 use journal_base::Tally;
 use prolog_session::output;
-use prolog_terms::{Name, Node, Ops, Shown, ShownVariables, Term, Want, Whole};
+use prolog_terms::{Bytes, Name, Node, Ops, Shown, ShownVariables, Term, Want, Whole};
 use std::alloc::Global;
 use std::process::Abort;
 use wam_machine::{Event, Events, Fronts, Run, RunEnd};
@@ -26,11 +26,16 @@ enum End {
     Want,
 }
 
-/// An answer, in a table: the list of the shown variables' values, and whether an alternative is left.
-type AnswerRow = (&'static [Piece], bool);
+/// What happens in a run, in a table.
+#[derive(Clone, Copy)]
+enum Happening {
+    /// The list of the shown variables' values, and whether an alternative is left.
+    Answer(&'static [Piece], bool),
+    Wrote(&'static str),
+}
 
-/// A run, in a table: its line in the load, or 0 for a goal; the names of its shown variables; its answers; its end.
-type RunRow = (u64, &'static [&'static str], &'static [AnswerRow], End);
+/// A run, in a table: its line in the load, or 0 for a goal; the names of its shown variables; what happens; its end.
+type RunRow = (u64, &'static [&'static str], &'static [Happening], End);
 
 fn node_of(alloc: Global, piece: Piece) -> Result<Node, Want> {
     match piece {
@@ -70,17 +75,20 @@ fn shown_of(alloc: Global, names: &[&str]) -> Result<Vec<Shown>, Want> {
     Ok(shown)
 }
 
-fn answer_of(alloc: Global, row: &AnswerRow) -> Result<Event, Want> {
-    Ok(Event::Answer {
-        values: term_of(alloc, row.0)?,
-        left: row.1,
-    })
+fn event_of(alloc: Global, happening: Happening) -> Result<Event, Want> {
+    match happening {
+        Happening::Answer(pieces, left) => Ok(Event::Answer {
+            values: term_of(alloc, pieces)?,
+            left,
+        }),
+        Happening::Wrote(text) => Ok(Event::Wrote(Bytes::of(alloc, text.as_bytes())?)),
+    }
 }
 
-fn events_of(alloc: Global, rows: &[AnswerRow]) -> Result<Vec<Event>, Want> {
+fn events_of(alloc: Global, happenings: &[Happening]) -> Result<Vec<Event>, Want> {
     let mut events = Vec::new(alloc);
-    for row in rows {
-        events.push(answer_of(alloc, row)?)?;
+    for happening in happenings {
+        events.push(event_of(alloc, *happening)?)?;
     }
     Ok(events)
 }
@@ -124,18 +132,22 @@ fn have_text(alloc: Global, rows: &[RunRow], text: &[u8]) -> Result<bool, Want> 
 
 const NO_VALUES: &[Piece] = &[Piece::Atom("[]")];
 
-const LAST: &[AnswerRow] = &[(NO_VALUES, false)];
+const CLOSED: Happening = Happening::Answer(NO_VALUES, false);
 
-const OPEN: &[AnswerRow] = &[(NO_VALUES, true)];
+const OPENED: Happening = Happening::Answer(NO_VALUES, true);
 
-const TWO: &[AnswerRow] = &[(NO_VALUES, true), (NO_VALUES, false)];
+const LAST: &[Happening] = &[CLOSED];
 
-const TWO_OPEN: &[AnswerRow] = &[(NO_VALUES, true), (NO_VALUES, true)];
+const OPEN: &[Happening] = &[OPENED];
+
+const TWO: &[Happening] = &[OPENED, CLOSED];
+
+const TWO_OPEN: &[Happening] = &[OPENED, OPENED];
 
 const OOPS: End = End::Ball(&[Piece::Functor("oops", 1), Piece::Var(1)]);
 
-const VALUES: &[AnswerRow] = &[
-    (
+const VALUES: &[Happening] = &[
+    Happening::Answer(
         &[
             Piece::Functor(".", 2),
             Piece::Functor("f", 1),
@@ -148,7 +160,7 @@ const VALUES: &[AnswerRow] = &[
         ],
         true,
     ),
-    (
+    Happening::Answer(
         &[
             Piece::Functor(".", 2),
             Piece::Atom("a b"),
@@ -160,10 +172,16 @@ const VALUES: &[AnswerRow] = &[
     ),
 ];
 
+const NOTHING: Happening = Happening::Wrote("");
+
+const BEGUN: Happening = Happening::Wrote("a b");
+
+const LINE: Happening = Happening::Wrote("c\n");
+
 /// Runs, and their text.
 type TextRow = (&'static [RunRow], &'static str);
 
-const TEXTS: [TextRow; 5] = [
+const TEXTS: [TextRow; 8] = [
     (&[], ""),
     (
         &[
@@ -212,6 +230,65 @@ const TEXTS: [TextRow; 5] = [
             % line 300: error: oops(_2).\n\
             % goal 1\nfalse.\n\
             % goal 2\ntrue.\n",
+    ),
+    // what a goal wrote, before an answer
+    (
+        &[
+            (0, &[], &[LINE, CLOSED], End::Exhausted),
+            (0, &[], &[BEGUN, CLOSED], End::Exhausted),
+            (0, &[], &[NOTHING, CLOSED], End::Exhausted),
+            (
+                0,
+                &[],
+                &[BEGUN, NOTHING, OPENED, LINE, BEGUN, LINE, BEGUN, CLOSED],
+                End::Exhausted,
+            ),
+        ],
+        "% goal 1\nc\ntrue.\n\
+            % goal 2\na b\ntrue.\n\
+            % goal 3\ntrue.\n\
+            % goal 4\na b\ntrue ;\nc\na bc\na b\ntrue.\n",
+    ),
+    // before an end
+    (
+        &[
+            (0, &[], &[BEGUN], End::Exhausted),
+            (0, &[], &[LINE], End::Exhausted),
+            (0, &[], &[NOTHING], End::Exhausted),
+            (0, &[], &[OPENED, BEGUN], End::Exhausted),
+            (0, &[], &[OPENED, BEGUN], OOPS),
+            (0, &[], &[LINE], End::Spent(7)),
+            (0, &[], &[BEGUN], End::Halted(-2)),
+            (0, &[], &[BEGUN], End::Want),
+        ],
+        "% goal 1\na b\nfalse.\n\
+            % goal 2\nc\nfalse.\n\
+            % goal 3\nfalse.\n\
+            % goal 4\ntrue ;\na b\nfalse.\n\
+            % goal 5\ntrue ;\na b\nerror: oops(_2).\n\
+            % goal 6\nc\nstopped after 7 steps.\n\
+            % goal 7\na b\nhalted with -2.\n\
+            % goal 8\na b\n",
+    ),
+    // what goals of the load wrote
+    (
+        &[
+            (1, &[], &[NOTHING], End::Exhausted),
+            (2, &[], &[NOTHING, CLOSED], End::Exhausted),
+            (3, &[], &[BEGUN, CLOSED], End::Exhausted),
+            (4, &[], &[LINE, OPENED, BEGUN], End::Exhausted),
+            (5, &[], &[BEGUN], End::Exhausted),
+            (6, &[], &[OPENED, LINE], OOPS),
+            (0, &[], &[BEGUN, CLOSED], End::Exhausted),
+            (7, &[], &[BEGUN, CLOSED], End::Exhausted),
+        ],
+        "% line 1: false.\n\
+            a b\n\
+            c\na b\n\
+            a b\n% line 5: false.\n\
+            c\n% line 6: error: oops(_2).\n\
+            a b\n\
+            % goal 1\na b\ntrue.\n",
     ),
 ];
 

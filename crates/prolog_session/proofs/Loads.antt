@@ -95,7 +95,7 @@ text-refused ops kept s r e =
     ap (text_under ops kept) (sentences-unfold s)
     ∙ ap (λ (n : Next). before n ops kept (λ (q : Part). text_under (operators_after q ops) (kept_after q kept) (later (tail s).how (tail s).rest))) e
 
-pub text-end : (ops : Table) (kept : List TextGoal) (s : Stream) → next_at ops s ≡ End → text_at ops kept s ≡ record { items = goals kept; operators = ops; refused = None }
+pub text-end : (ops : Table) (kept : List TextGoal) (s : Stream) → next_at ops s ≡ End → text_at ops kept s ≡ record { items = goals ops kept; operators = ops; refused = None }
 unfolding read_of
 text-end ops kept s e =
     ap (text_under ops kept) (sentences-unfold s)
@@ -116,7 +116,7 @@ shorter ops s p on = go (read_of ops s) refl on
 abbrev IsFit : Item → Type 0
 IsFit (a_clause line i c) = IsClauseOf i c
 IsFit (an_error line fault at) = Unit {0}
-IsFit (a_goal g) = Unit {0}
+IsFit (a_goal ops g) = Unit {0}
 
 abbrev AreFit : List Item → Type 0
 AreFit [] = Unit {0}
@@ -126,9 +126,9 @@ fit-both : (xs ys : List Item) → AreFit xs → AreFit ys → AreFit (xs ++ ys)
 fit-both [] ys h k = k
 fit-both (x ∷ xs) ys h k = (h.0, fit-both xs ys h.1 k)
 
-fit-goals : (kept : List TextGoal) → AreFit (goals kept)
-fit-goals [] = tt
-fit-goals (g ∷ gs) = (tt, fit-goals gs)
+fit-goals : (ops : Table) (kept : List TextGoal) → AreFit (goals ops kept)
+fit-goals ops [] = tt
+fit-goals ops (g ∷ gs) = (tt, fit-goals ops gs)
 
 fit-errors : (line : ℕ) (o : Option Fault) → AreFit (error_items line o)
 fit-errors line None = tt
@@ -159,10 +159,10 @@ fit-answer (a_term n r) ops kept behind h =
     let p : Part = part_of n r in
     fit-both (items_of p ops) (behind p).items (fit-part n r (directive_of r.term) ops) (h p)
 fit-answer (refusal n f) ops kept behind h = tt
-fit-answer nothing ops kept behind h = fit-goals kept
+fit-answer nothing ops kept behind h = fit-goals ops kept
 
 fit : (ops : Table) (kept : List TextGoal) (xs : List Sentence) → AreFit (text_under ops kept xs).items
-fit ops kept [] = fit-goals kept
+fit ops kept [] = fit-goals ops kept
 fit ops kept (x ∷ xs) =
     fit-answer (answer_of ops x) ops kept (λ (p : Part). text_under (operators_after p ops) (kept_after p kept) xs)
     (λ (p : Part). fit (operators_after p ops) (kept_after p kept) xs)
@@ -172,7 +172,7 @@ Legal-after sizes J [] fits legal = legal
 Legal-after sizes J (a_clause line i c ∷ items) fits legal =
     Legal-after sizes (with_clause sizes J i c).journal items fits.1 (Legal-with_clause sizes J i c legal fits.0.named fits.0.clause)
 Legal-after sizes J (an_error line fault at ∷ items) fits legal = Legal-after sizes J items fits.1 legal
-Legal-after sizes J (a_goal g ∷ items) fits legal = Legal-after sizes J items fits.1 legal
+Legal-after sizes J (a_goal ops g ∷ items) fits legal = Legal-after sizes J items fits.1 legal
 
 pub Legal-journal_of : (sizes : Sizes) (text : List ℕ) → Legal sizes.words sizes.updates (journal_of sizes text)
 unfolding text_of
@@ -185,14 +185,14 @@ pub Loads-append : (sizes : Sizes) (budget : ℕ) (s : Loaded) (xs ys : List Ite
 Loads-append sizes budget s [] ys u t h k = subst (λ (z : Loaded). Loads sizes budget z ys t) h k
 Loads-append sizes budget s (a_clause line i c ∷ xs) ys u t h k = Loads-append sizes budget (after_clause sizes line i c s) xs ys u t h k
 Loads-append sizes budget s (an_error line fault at ∷ xs) ys u t h k = Loads-append sizes budget (after_error line fault at s) xs ys u t h k
-Loads-append sizes budget s (a_goal g ∷ xs) ys u t h k = (h.0, (h.1.0, Loads-append sizes budget (with_run s h.0) xs ys u t h.1.1 k))
+Loads-append sizes budget s (a_goal ops g ∷ xs) ys u t h k = (h.0, (h.1.0, Loads-append sizes budget (with_run s h.0) xs ys u t h.1.1 k))
 
 -- whatever the runs are, the journal is that of the clauses
 Loads-journal : (sizes : Sizes) (budget : ℕ) (s : Loaded) (xs : List Item) (t : Loaded) → Loads sizes budget s xs t → t.journal ≡ journal_after sizes s.journal xs
 Loads-journal sizes budget s [] t h = ap (λ (z : Loaded). z.journal) h
 Loads-journal sizes budget s (a_clause line i c ∷ xs) t h = Loads-journal sizes budget (after_clause sizes line i c s) xs t h
 Loads-journal sizes budget s (an_error line fault at ∷ xs) t h = Loads-journal sizes budget (after_error line fault at s) xs t h
-Loads-journal sizes budget s (a_goal g ∷ xs) t h = Loads-journal sizes budget (with_run s h.0) xs t h.1.1
+Loads-journal sizes budget s (a_goal ops g ∷ xs) t h = Loads-journal sizes budget (with_run s h.0) xs t h.1.1
 
 -- ---- the loop of a load
 
@@ -287,10 +287,10 @@ loading-refused sizes budget b ops runs kept s r text h e = loading-over sizes b
 -- the goals that were kept have been run
 pub loading-end : (sizes : Sizes) (budget : ℕ) (b after : Plain) (ops : Table) (runs all : List Run) (kept : List TextGoal) (s : Stream) (text : List ℕ)
     → IsLoading sizes budget b ops runs kept s text → next_at ops s ≡ End → after ≡ b
-    → Loads (sizes_of b) budget (loaded_in b runs) (goals kept) (loaded_in after all) → IsLoaded sizes budget after ops all None text
+    → Loads (sizes_of b) budget (loaded_in b runs) (goals ops kept) (loaded_in after all) → IsLoaded sizes budget after ops all None text
 loading-end sizes budget b after ops runs all kept s text h e same k =
-    loading-over sizes budget b after ops runs all kept s (goals kept) None text h (text-end ops kept s e) same
-    (subst (λ (z : Sizes). Loads z budget (loaded_in b runs) (goals kept) (loaded_in after all)) (ap sizes_of h.base) k)
+    loading-over sizes budget b after ops runs all kept s (goals ops kept) None text h (text-end ops kept s e) same
+    (subst (λ (z : Sizes). Loads z budget (loaded_in b runs) (goals ops kept) (loaded_in after all)) (ap sizes_of h.base) k)
 
 pub loading-number : (sizes : Sizes) (budget : ℕ) (b : Plain) (ops : Table) (runs : List Run) (kept : List TextGoal) (s : Stream) (text : List ℕ)
     → IsLoading sizes budget b ops runs kept s text → IsOfLoad b

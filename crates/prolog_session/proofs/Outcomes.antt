@@ -22,10 +22,11 @@ use Rattle.prolog_session.specs.Load.{IsLoadOf, operators_of, refusal_of}
 use Rattle.prolog_session.specs.Errors.{bad_words_text, source_text, too_long_text, refusal_text}
 use Rattle.prolog_session.specs.Headline.{IsRun, HasRuns, IsLoaded, IsEmpty, IsStatus, expected, expected_of, Ends, IsTooLong, HasLoaded, AreRunsOf, HasRun, Under, HasRefused, Gains, HasBegun, of_bad_words, of_source, of_too_long, of_refusal, of_runs}
 use Rattle.prolog_session.specs.Output.{load_text, output_of}
+use Rattle.prolog_session.specs.Runs.{AreRunsBehind}
 use Rattle.prolog_session.specs.Prepared.{Prepares, status_before}
 use Rattle.prolog_session.specs.Ends.{final_status, final_journal, final_runs, final_operators, runs_left, shown}
 use Rattle.prolog_session.proofs.Loads.{Legal-journal_of}
-use Rattle.prolog_session.proofs.Rows.{status_small, is_not, run_is_not, run_is_not_2, run_is_not_3, run_is_not_4, run_is_not_5, run_is_not_8, not_ran, told_long, told_fits, told_loads, told_refusal, told_operators}
+use Rattle.prolog_session.proofs.Rows.{status_small, is_not, run_is_not, run_is_not_2, run_is_not_3, run_is_not_4, run_is_not_5, run_is_not_8, not_ran, told_long, told_fits, told_loads, told_refusal, told_operators, told_text}
 
 -- ---- the outcome
 
@@ -76,7 +77,7 @@ runs_told sizes command None sn journal runs o h = tt
 runs_told sizes command (Some bytes) sn journal runs None h = absurd h
 runs_told sizes command (Some bytes) sn journal runs (Some ops) h =
     let P : Option Command → Type 0 = λ c. IfSome c (λ asked. AreRunsOf sizes bytes asked journal runs) in
-    subst P (sym h.asked_is) (record { loads = h.loads; of_load = told_loads sizes h.asked.steps bytes sn journal h.loads None h.loaded; behind = h.runs_are })
+    subst P (sym h.asked_is) (record { loads = h.loads; of_load = told_loads sizes h.asked.steps bytes sn journal h.loads None h.loaded; behind = subst (λ (o : Table). AreRunsBehind o h.loads h.asked journal runs) (h.operators ∙ ap operators_of (told_text bytes sn h.loaded.text h.loaded.took)) h.runs_are })
 
 -- where neither the journal nor the runs are told, the status is none of these
 record IsApart (k : ℕ) : Type 0 where

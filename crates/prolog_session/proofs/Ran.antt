@@ -1,6 +1,7 @@
 -- A run over a base that keeps one list of entries.
 use Rattle.std.proofs.Common.{◌≡◌, ◌≢◌, ℕ, List, [], ◌∷◌, ◌++◌, length, Option, Some, refl, sym, ap, ◌∙◌, subst}
 use Rattle.prolog_terms.specs.Tree.{Tree}
+use Rattle.prolog_terms.specs.Operators.{Table}
 use Rattle.journal_base.specs.View.{Looks, none_out}
 use Rattle.journal_base.specs.Plain.{Plain, plain_view, plain_out, IsContinued}
 use Rattle.wam_machine.specs.Machine.{Setting}
@@ -37,11 +38,11 @@ lined x causes goal run line h = record {
 }
 
 -- the run of a goal, with its line
-pub run_by : (b e n : Plain) (budget line : ℕ) (goal : Goal) (run : Run) → e ≡ b → n ≡ b → IsRunOf (plain_view n) (length e.entries) budget goal run → run.end ≢ Want
-    → IsRunBy b.number line goal b.entries budget (record run { line = line })
-run_by b e n budget line goal run before after h ended =
-    let front : IsRunOf (plain_view n) (length b.entries) budget goal run = subst (λ (s : Plain). IsRunOf (plain_view n) (length s.entries) budget goal run) before h in
-    let over : IsRunOf (plain_view b) (length b.entries) budget goal run = subst (λ (s : Plain). IsRunOf (plain_view s) (length b.entries) budget goal run) after front in
+pub run_by : (ops : Table) (b e n : Plain) (budget line : ℕ) (goal : Goal) (run : Run) → e ≡ b → n ≡ b → IsRunOf ops (plain_view n) (length e.entries) budget goal run → run.end ≢ Want
+    → IsRunBy ops b.number line goal b.entries budget (record run { line = line })
+run_by ops b e n budget line goal run before after h ended =
+    let front : IsRunOf ops (plain_view n) (length b.entries) budget goal run = subst (λ (s : Plain). IsRunOf ops (plain_view n) (length s.entries) budget goal run) before h in
+    let over : IsRunOf ops (plain_view b) (length b.entries) budget goal run = subst (λ (s : Plain). IsRunOf ops (plain_view s) (length b.entries) budget goal run) after front in
     record {
       engine_is = over.engine;
       line_is = refl;
@@ -52,15 +53,15 @@ run_by b e n budget line goal run before after h ended =
     }
 
 -- the run of a goal of the command line stands behind those of the load
-pub runs_after : (b r : Plain) (command : Command) (goal : Goal) (run : Run) (loads runs : List Run) → r ≡ record b { number = 1 }
-    → command.goal ≡ Some goal → IsRunBy r.number 0 goal r.entries command.steps run → runs ≡ loads ++ run ∷ []
-    → AreRunsBehind loads command b.entries runs
-runs_after b r command goal run loads runs renumbered is h all =
+pub runs_after : (ops : Table) (b r : Plain) (command : Command) (goal : Goal) (run : Run) (loads runs : List Run) → r ≡ record b { number = 1 }
+    → command.goal ≡ Some goal → IsRunBy ops r.number 0 goal r.entries command.steps run → runs ≡ loads ++ run ∷ []
+    → AreRunsBehind ops loads command b.entries runs
+runs_after ops b r command goal run loads runs renumbered is h all =
     let budget : ℕ = command.steps in
-    let by : IsRunBy 1 0 goal b.entries budget run = subst (λ (s : Plain). IsRunBy s.number 0 goal s.entries budget run) renumbered h in
-    let one : IsOneRun goal b.entries budget (run ∷ []) = record { run = run; only = refl; by = by } in
+    let by : IsRunBy ops 1 0 goal b.entries budget run = subst (λ (s : Plain). IsRunBy ops s.number 0 goal s.entries budget run) renumbered h in
+    let one : IsOneRun ops goal b.entries budget (run ∷ []) = record { run = run; only = refl; by = by } in
     record {
       goals = run ∷ [];
       in_order = all;
-      of_command = subst (λ (g : Option Goal). AreRunsWithin budget g b.entries (run ∷ [])) (sym is) one;
+      of_command = subst (λ (g : Option Goal). AreRunsWithin ops budget g b.entries (run ∷ [])) (sym is) one;
     }

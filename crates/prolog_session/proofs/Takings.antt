@@ -1,6 +1,7 @@
 -- What a load does with a read-term.
 use Rattle.std.proofs.Common.{◌≡◌, ℕ, ◌+◌, ◌<◌, length, take, get_or, List, [], ◌∷◌, ◌++◌, Bool, Option, Some, None, append-nil, refl, sym, ◌∙◌, ap, subst}
 use Rattle.std.proofs.lemmas.List.{take_more, map-append}
+use Rattle.prolog_terms.specs.Operators.{Table}
 use Rattle.prolog_terms.specs.declared.entry.Clause.{Clause as AClause}
 use Rattle.prolog_terms.specs.declared.entry.Indicator.{Indicator}
 use Rattle.prolog_terms.specs.declared.fault.Fault.{Fault}
@@ -21,10 +22,10 @@ use Rattle.prolog_session.specs.Bases.{sizes_of, loaded_in, error_runs, IsOfLoad
 use Rattle.prolog_session.specs.Taking.{Takes}
 
 -- a goal has been run over what is loaded
-pub goal_added : (b : Plain) (budget : ℕ) (runs more : List Run) (g : TextGoal) (run : Run) → IsOfLoad b → IsRunBy b.number g.line g.goal b.entries budget run → more ≡ runs ++ run ∷ []
-    → Loads (sizes_of b) budget (loaded_in b runs) (a_goal g ∷ []) (loaded_in b more)
-goal_added b budget runs more g run h by adds =
-    (run, (subst (λ (n : ℕ). IsRunBy n g.line g.goal b.entries budget run) h.number by, ap (λ (l : List Run). loaded_in b l) adds))
+pub goal_added : (ops : Table) (b : Plain) (budget : ℕ) (runs more : List Run) (g : TextGoal) (run : Run) → IsOfLoad b → IsRunBy ops b.number g.line g.goal b.entries budget run → more ≡ runs ++ run ∷ []
+    → Loads (sizes_of b) budget (loaded_in b runs) (a_goal ops g ∷ []) (loaded_in b more)
+goal_added ops b budget runs more g run h by adds =
+    (run, (subst (λ (n : ℕ). IsRunBy ops n g.line g.goal b.entries budget run) h.number by, ap (λ (l : List Run). loaded_in b l) adds))
 
 -- ---- the parts
 
@@ -66,10 +67,10 @@ takes_operators budget old new line d base ops runs kept = record {
 }
 
 pub takes_goal : (budget : ℕ) (old new : Loading) (g : TextGoal) → new.base ≡ old.base → new.ops ≡ old.ops
-    → Loads (sizes_of old.base) budget (loaded_in old.base old.runs) (a_goal g ∷ []) (loaded_in old.base new.runs) → new.kept ≡ old.kept → Takes budget old new (Goal g)
+    → Loads (sizes_of old.base) budget (loaded_in old.base old.runs) (a_goal old.ops g ∷ []) (loaded_in old.base new.runs) → new.kept ≡ old.kept → Takes budget old new (Goal g)
 takes_goal budget old new g base ops loads kept = record {
   base = stays old.base new.base base;
-  loads = subst (λ (b : Plain). Loads (sizes_of old.base) budget (loaded_in old.base old.runs) (a_goal g ∷ []) (loaded_in b new.runs)) (sym base) loads;
+  loads = subst (λ (b : Plain). Loads (sizes_of old.base) budget (loaded_in old.base old.runs) (a_goal old.ops g ∷ []) (loaded_in b new.runs)) (sym base) loads;
   operators = ops;
   kept = kept;
 }
@@ -97,12 +98,12 @@ takes_raises budget old new line fault at run base ops runs is kept = record {
 
 -- ---- the goals that were kept
 
-pub kept_step : (sizes : Sizes) (budget i : ℕ) (kept : List TextGoal) (g : TextGoal) (s u t : Loaded) → i < length kept → g ≡ get_or kept i g → Loads sizes budget s (goals (take i kept)) u
-    → Loads sizes budget u (a_goal g ∷ []) t → Loads sizes budget s (goals (take (i + 1) kept)) t
-kept_step sizes budget i kept g s u t low is h k =
-    let items : goals (take (i + 1) kept) ≡ goals (take i kept) ++ a_goal g ∷ [] =
-    ap goals (take_more kept i g low ∙ ap (λ (x : TextGoal). take i kept ++ x ∷ []) (sym is)) ∙ map-append a_goal (take i kept) (g ∷ []) in
-    subst (λ (l : List Item). Loads sizes budget s l t) (sym items) (Loads-append sizes budget s (goals (take i kept)) (a_goal g ∷ []) u t h k)
+pub kept_step : (ops : Table) (sizes : Sizes) (budget i : ℕ) (kept : List TextGoal) (g : TextGoal) (s u t : Loaded) → i < length kept → g ≡ get_or kept i g → Loads sizes budget s (goals ops (take i kept)) u
+    → Loads sizes budget u (a_goal ops g ∷ []) t → Loads sizes budget s (goals ops (take (i + 1) kept)) t
+kept_step ops sizes budget i kept g s u t low is h k =
+    let items : goals ops (take (i + 1) kept) ≡ goals ops (take i kept) ++ a_goal ops g ∷ [] =
+    ap (goals ops) (take_more kept i g low ∙ ap (λ (x : TextGoal). take i kept ++ x ∷ []) (sym is)) ∙ map-append (a_goal ops) (take i kept) (g ∷ []) in
+    subst (λ (l : List Item). Loads sizes budget s l t) (sym items) (Loads-append sizes budget s (goals ops (take i kept)) (a_goal ops g ∷ []) u t h k)
 
 pub kept_shown : (i : ℕ) (kept : List TextGoal) (g : TextGoal) → i < length kept → g ≡ get_or kept i g → AreAllShown kept → AreShown g.goal
 kept_shown i kept g low is h = subst (λ (x : TextGoal). AreShown x.goal) (sym is) (h i g low)

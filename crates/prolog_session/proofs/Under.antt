@@ -45,7 +45,7 @@ refused_under sizes command asked old new text bytes journal entries runs ops fo
 -- a text that isn't, and the run of the goal over its journal
 pub ran_under : (sizes : Sizes) (command : Option Command) (asked : Command) (old new : Option (List ℕ)) (text bytes : List ℕ) (journal entries : Journal) (loads runs : List Run) (ops : Table)
     (found : Option Refusal) → IsTaken old new text → bytes ≡ text → journal ≡ entries → entries ≡ journal_of sizes bytes → IsLoadOf sizes asked.steps bytes entries loads
-    → ops ≡ operators_of bytes → found ≡ refusal_of bytes → found ≡ None → command ≡ Some asked → AreRunsBehind loads asked entries runs
+    → ops ≡ operators_of bytes → found ≡ refusal_of bytes → found ≡ None → command ≡ Some asked → AreRunsBehind ops loads asked entries runs
     → HasRun sizes command old new journal runs ops
 ran_under sizes command asked old new text bytes journal entries loads runs ops found h same j all l o e is asks behind =
     let of_load : IsLoadOf sizes asked.steps bytes journal loads = subst (λ (J : Journal). IsLoadOf sizes asked.steps bytes J loads) (sym j) l in
@@ -54,6 +54,6 @@ ran_under sizes command asked old new text bytes journal entries loads runs ops 
       asked_is = asks;
       loads = loads;
       loaded = loaded sizes asked.steps old new text bytes journal loads None h same (j ∙ all) of_load (sym is ∙ e);
-      runs_are = subst (λ (J : Journal). AreRunsBehind loads asked J runs) (sym j) behind;
+      runs_are = subst (λ (J : Journal). AreRunsBehind ops loads asked J runs) (sym j) behind;
       operators = o;
     }

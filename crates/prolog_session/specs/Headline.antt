@@ -75,11 +75,12 @@ pub record HasLoaded (sizes : Sizes) (budget : ℕ) (old new : Option (List ℕ)
   pub loads : IsLoadOf sizes budget text journal runs
   pub refused_is : refusal_of text ≡ refused
 
--- The runs are those of a load of this text, each goal of it within the command's budget, and then those of the command over its journal.
+-- The runs are those of a load of this text, each goal of it within the command's budget, and then those of the command over its
+-- journal, under the operators behind the text.
 pub record AreRunsOf (sizes : Sizes) (text : List ℕ) (command : Command) (journal : Journal) (runs : List Run) : Type 0 where
   pub loads : List Run
   pub of_load : IsLoadOf sizes command.steps text journal loads
-  pub behind : AreRunsBehind loads command journal runs
+  pub behind : AreRunsBehind (operators_of text) loads command journal runs
 
 -- A text was loaded whole, and the goal was run: the runs are those of the load, and then those of the command over its journal; and
 -- these are the operators behind the text.
@@ -88,7 +89,7 @@ pub record HasRun (sizes : Sizes) (command : Option Command) (old new : Option (
   pub asked_is : command ≡ Some asked
   pub loads : List Run
   pub loaded : HasLoaded sizes asked.steps old new journal loads None
-  pub runs_are : AreRunsBehind loads asked journal runs
+  pub runs_are : AreRunsBehind ops loads asked journal runs
   pub operators : ops ≡ operators_of loaded.text
 
 -- there are operators, and this is so of them

@@ -114,11 +114,12 @@ IsReadyNext End = Unit {0}
 
 -- ---- the read-terms of a text
 
--- what a read-term has a load do: add a clause, give a run that ends in an error, or run a goal
+-- what a read-term has a load do: add a clause, give a run that ends in an error, or run a goal, which writes under the operators at its
+-- place
 pub data Item : Type 0 where
   a_clause : (line : ℕ) (indicator : Indicator) (clause : AClause) → Item
   an_error : (line : ℕ) (fault : Fault) (at : Indicator) → Item
-  a_goal : (goal : TextGoal) → Item
+  a_goal : (ops : Table) (goal : TextGoal) → Item
 
 -- what the read-terms of a text have a load do, the operators that there are behind them, and the read-term at which the load ends, if
 -- one is refused
@@ -138,7 +139,7 @@ error_items line (Some fault) = an_error line fault op ∷ []
 abbrev pub items_of : Part → Table → List Item
 items_of (Clause line i c) ops = a_clause line i c ∷ []
 items_of (Operators line d) ops = error_items line (error_of ops d)
-items_of (Goal g) ops = a_goal g ∷ []
+items_of (Goal g) ops = a_goal ops g ∷ []
 items_of (Kept g) ops = []
 items_of Nothing ops = []
 items_of (Raises line fault at) ops = an_error line fault at ∷ []
@@ -161,8 +162,8 @@ kept_after (Kept g) kept = kept ++ g ∷ []
 kept_after Nothing kept = kept
 kept_after (Raises line fault at) kept = kept
 
-abbrev pub goals : List TextGoal → List Item
-goals kept = map a_goal kept
+abbrev pub goals : Table → List TextGoal → List Item
+goals ops kept = map (a_goal ops) kept
 
 abbrev pub ended : List Item → Table → Option Refusal → ReadText
 ended items ops refused = record { items = items; operators = ops; refused = refused }
@@ -175,11 +176,11 @@ with_items items later = record later { items = items ++ later.items }
 abbrev pub before : Next → Table → List TextGoal → (Part → ReadText) → ReadText
 before (Taken part) ops kept later = with_items (items_of part ops) (later part)
 before (Refused r) ops kept later = ended [] ops (Some r)
-before End ops kept later = ended (goals kept) ops None
+before End ops kept later = ended (goals ops kept) ops None
 
 -- Each read-term is read under the operators that there are behind those before it.
 abbrev pub text_under : Table → List TextGoal → List Sentence → ReadText
-text_under ops kept [] = ended (goals kept) ops None
+text_under ops kept [] = ended (goals ops kept) ops None
 text_under ops kept (x ∷ xs) = before (next_of (answer_of ops x)) ops kept (λ part. text_under (operators_after part ops) (kept_after part kept) xs)
 
 unfoldable pub text_of : List ℕ → ReadText
@@ -277,13 +278,13 @@ after_error line fault at s = record s { runs = s.runs ++ raised line fault at �
 abbrev pub with_run : Loaded → Run → Loaded
 with_run s run = record s { runs = s.runs ++ run ∷ [] }
 
--- These items, one after the other, lead from the one load so far to the other. A goal is run by engine 0 over the journal at its place,
--- within the budget; a run may be made in more than one way, since its looks may.
+-- These items, one after the other, lead from the one load so far to the other. A goal is run by engine 0 over the journal at its place
+-- and under the operators there, within the budget; a run may be made in more than one way, since its looks may.
 abbrev pub Loads : Sizes → ℕ → Loaded → List Item → Loaded → Type 0
 Loads sizes budget s [] t = t ≡ s
 Loads sizes budget s (a_clause line i c ∷ rest) t = Loads sizes budget (after_clause sizes line i c s) rest t
 Loads sizes budget s (an_error line fault at ∷ rest) t = Loads sizes budget (after_error line fault at s) rest t
-Loads sizes budget s (a_goal g ∷ rest) t = (run : Run) × (IsRunBy 0 g.line g.goal s.journal budget run × Loads sizes budget (with_run s run) rest t)
+Loads sizes budget s (a_goal ops g ∷ rest) t = (run : Run) × (IsRunBy ops 0 g.line g.goal s.journal budget run × Loads sizes budget (with_run s run) rest t)
 
 abbrev pub unloaded : Loaded
 unloaded = record { journal = []; runs = [] }
@@ -299,7 +300,7 @@ abbrev pub journal_after : Sizes → Journal → List Item → Journal
 journal_after sizes J [] = J
 journal_after sizes J (a_clause line i c ∷ rest) = journal_after sizes (with_clause sizes J i c).journal rest
 journal_after sizes J (an_error line fault at ∷ rest) = journal_after sizes J rest
-journal_after sizes J (a_goal g ∷ rest) = journal_after sizes J rest
+journal_after sizes J (a_goal ops g ∷ rest) = journal_after sizes J rest
 
 -- the journal of each load of this text into an empty base of these sizes
 abbrev pub journal_of : Sizes → List ℕ → Journal

@@ -18,8 +18,8 @@ pub struct GoalRun {
     pub run: Run,
 }
 
-/// Runs a goal by the engine that the base serves, in as many steps at most as are given; the run has this line. The base
-/// and the operators come back as they were.
+/// Runs a goal by the engine that the base serves, in as many steps at most as are given; the run has this line, and writes
+/// under these operators. The base and the operators come back as they were.
 pub fn run_goal<R: Wait, G: Gate>(
     rt: &R,
     alloc: Global,
@@ -35,7 +35,7 @@ pub fn run_goal<R: Wait, G: Gate>(
     requires out { base.out ≡ 0 }
     ensures base { IfOk result (λ ran. ran.base ≡ base) }
     ensures ops { IfOk result (λ ran. ran.ops ≡ ops) }
-    ensures run { IfOk result (λ ran. IsRunBy base.number line goal.now base.entries steps ran.run) }
+    ensures run { IfOk result (λ ran. IsRunBy ops base.number line goal.now base.entries steps ran.run) }
 {
     let mut engine = match Engine::new(alloc, base, ops) {
         Ok(engine) => engine,

@@ -179,7 +179,7 @@ fn run_in_load<R: Wait, G: Gate>(
     requires base { IsOfLoad base }
     ensures base { IfOk result (λ after. after.0 ≡ base) }
     ensures ops { IfOk result (λ after. after.1 ≡ ops) }
-    ensures run { OnOk result (Loads (sizes_of base) steps (loaded_in base runs.old) (a_goal goal.now ∷ []) (loaded_in base runs.new)) }
+    ensures run { OnOk result (Loads (sizes_of base) steps (loaded_in base runs.old) (a_goal ops goal.now ∷ []) (loaded_in base runs.new)) }
 {
     let ran = run_goal(rt, alloc, gate, steps, base, ops, goal.line, &goal.goal)?;
     runs.push(ran.run)?;
@@ -265,7 +265,7 @@ fn run_kept<R: Wait, G: Gate>(
     requires goals { All (λ goal. AreShown goal.goal) load.kept }
     requires base { IsOfLoad load.base }
     ensures base { IfOk result (λ after. after.base ≡ load.base) }
-    ensures runs { IfOk result (λ after. Loads (sizes_of load.base) steps (loaded_in load.base load.runs) (goals load.kept) (loaded_in after.base after.runs)) }
+    ensures runs { IfOk result (λ after. Loads (sizes_of load.base) steps (loaded_in load.base load.runs) (goals load.ops load.kept) (loaded_in after.base after.runs)) }
     ensures operators { IfOk result (λ after. after.ops ≡ load.ops) }
     ensures refused { IfOk result (λ after. after.refused ≡ None) }
 {

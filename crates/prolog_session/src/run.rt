@@ -38,7 +38,7 @@ pub fn run_command<R: Wait, G: Gate>(
     requires out { load.base.out ≡ 0 }
     ensures journal { IfOk result (λ ran. ran.journal ≡ load.base.entries) }
     ensures operators { IfOk result (λ ran. ran.ops ≡ load.ops) }
-    ensures runs { IfOk result (λ ran. AreRunsBehind load.runs command load.base.entries ran.runs) }
+    ensures runs { IfOk result (λ ran. AreRunsBehind load.ops load.runs command load.base.entries ran.runs) }
 {
     let Load {
         base,

@@ -8,11 +8,11 @@ ghost use Rattle.prolog_writer.specs.Pieces.{written};
 ghost use Rattle.prolog_writer.specs.declared.style.Style.TheVariants.{Quoted};
 ghost use Rattle.prolog_session.specs.Errors as errors;
 ghost use Rattle.prolog_session.specs.Cells.{at_cell};
-ghost use Rattle.prolog_session.specs.Output.{elements, value_text, further_text, values_text, event_text, events_text, closes, is_closed, end_text, is_of_load, is_of_goal, is_answer, has_answered, load_run_text, load_text, run_text, runs_text, output_of};
+ghost use Rattle.prolog_session.specs.Output.{elements, value_text, further_text, values_text, is_open, completed, event_after, events_after, written_after, closes, is_closed, end_text, is_of_load, is_of_goal, is_answer, has_answered, told_of_load, load_run_after, load_runs_after, load_text, run_after, runs_after, output_of};
 
 use crate::putting::{put, put_number};
 use crate::refusal::{Refusal, put_refusal};
-use prolog_terms::{Name, Node, Ops, Shown, Term, Want, Whole};
+use prolog_terms::{Bytes, Name, Node, Ops, Shown, Term, Want, Whole};
 use prolog_writer::{Style, write_front};
 use std::alloc::Global;
 use wam_machine::{Event, Run, RunEnd};
@@ -101,7 +101,34 @@ fn put_values(
     Ok(())
 }
 
-#[tactic(auto, unfolding(crate::specs::Output::event_text))]
+// Whether something is written whose last byte is not that of the end of a line.
+fn is_open(text: &[u8]) -> bool
+    ensures { result ≡ is_open text.now }
+{
+    match text.split_last() {
+        None => false,
+        Some((byte, _)) => *byte != b'\n',
+    }
+}
+
+// Completes the last line.
+fn complete(text: &mut Vec<u8>) -> Result<(), Want>
+    ensures { OnOk result (text.new.items ≡ completed text.old.items) }
+{
+    if is_open(text) {
+        return put(text, "\n");
+    }
+    Ok(())
+}
+
+fn put_bytes(text: &mut Vec<u8>, bytes: &Bytes) -> Result<(), Want>
+    ensures { OnOk result (text.new.items ≡ text.old.items ++ bytes.now) }
+{
+    text.extend_from_slice(bytes.bytes())?;
+    Ok(())
+}
+
+#[tactic(auto, unfolding(crate::specs::Output::event_after))]
 fn put_event(
     text: &mut Vec<u8>,
     alloc: Global,
@@ -109,17 +136,19 @@ fn put_event(
     shown: &[Shown],
     event: &Event,
 ) -> Result<(), Want>
-    ensures { OnOk result (text.new.items ≡ text.old.items ++ event_text ops.now shown.now event.now) }
+    ensures { OnOk result (text.new.items ≡ event_after ops.now shown.now text.old.items event.now) }
 {
     match event {
         Event::Answer { values, left } => {
+            complete(text)?;
             put_values(text, alloc, ops, shown, values)?;
             put(text, if *left { " ;\n" } else { ".\n" })
         }
+        Event::Wrote(bytes) => put_bytes(text, bytes),
     }
 }
 
-#[tactic(auto, unfolding(crate::specs::Output::events_text))]
+#[tactic(auto, unfolding(crate::specs::Output::events_after))]
 fn put_events(
     text: &mut Vec<u8>,
     alloc: Global,
@@ -127,7 +156,7 @@ fn put_events(
     shown: &[Shown],
     events: &[Event],
 ) -> Result<(), Want>
-    ensures { OnOk result (text.new.items ≡ text.old.items ++ events_text ops.now shown.now events.now) }
+    ensures { OnOk result (text.new.items ≡ events_after ops.now shown.now text.old.items events.now) }
 {
     for event in events {
         put_event(text, alloc, ops, shown, event)?;
@@ -140,6 +169,7 @@ fn closes(event: &Event) -> bool
 {
     match event {
         Event::Answer { values: _, left } => !*left,
+        Event::Wrote(_) => false,
     }
 }
 
@@ -203,7 +233,7 @@ fn put_end(
     }
 }
 
-#[tactic(auto, unfolding(crate::specs::Output::run_text))]
+#[tactic(auto, unfolding(crate::specs::Output::run_after))]
 fn put_run(
     text: &mut Vec<u8>,
     alloc: Global,
@@ -211,13 +241,15 @@ fn put_run(
     number: usize,
     run: &Run,
 ) -> Result<(), Want>
-    ensures { OnOk result (text.new.items ≡ text.old.items ++ run_text ops.now number run.now) }
+    ensures { OnOk result (text.new.items ≡ run_after ops.now text.old.items number run.now) }
 {
     put(text, "% goal ")?;
     put_number(text, number as u128)?;
     put(text, "\n")?;
-    put_events(text, alloc, ops, run.shown.items(), run.transcript.items())?;
-    put_end(text, alloc, ops, run.transcript.items(), &run.end)
+    let events = run.transcript.items();
+    put_events(text, alloc, ops, run.shown.items(), events)?;
+    complete(text)?;
+    put_end(text, alloc, ops, events, &run.end)
 }
 
 fn is_of_load(run: &Run) -> bool
@@ -231,6 +263,7 @@ fn is_answer(event: &Event) -> bool
 {
     match event {
         Event::Answer { .. } => true,
+        Event::Wrote(_) => false,
     }
 }
 
@@ -250,9 +283,22 @@ fn has_answered(events: &[Event], end: &RunEnd) -> bool
     }
 }
 
-#[tactic(auto, unfolding(crate::specs::Output::load_run_text))]
-fn put_load_run(text: &mut Vec<u8>, alloc: Global, ops: &Ops, run: &Run) -> Result<(), Want>
-    ensures { OnOk result (text.new.items ≡ text.old.items ++ load_run_text ops.now run.now) }
+// Puts what these events wrote.
+fn put_written(text: &mut Vec<u8>, events: &[Event]) -> Result<(), Want>
+    ensures { OnOk result (text.new.items ≡ written_after text.old.items events.now) }
+{
+    for event in events {
+        if let Event::Wrote(bytes) = event {
+            put_bytes(text, bytes)?;
+        }
+    }
+    Ok(())
+}
+
+// Puts what is told of a run of the load.
+#[tactic(auto, unfolding(crate::specs::Output::told_of_load))]
+fn put_told(text: &mut Vec<u8>, alloc: Global, ops: &Ops, run: &Run) -> Result<(), Want>
+    ensures { OnOk result (text.new.items ≡ text.old.items ++ told_of_load ops.now run.now) }
 {
     if has_answered(run.transcript.items(), &run.end) {
         return Ok(());
@@ -263,10 +309,19 @@ fn put_load_run(text: &mut Vec<u8>, alloc: Global, ops: &Ops, run: &Run) -> Resu
     put_end(text, alloc, ops, run.transcript.items(), &run.end)
 }
 
+#[tactic(auto, unfolding(crate::specs::Output::load_run_after))]
+fn put_load_run(text: &mut Vec<u8>, alloc: Global, ops: &Ops, run: &Run) -> Result<(), Want>
+    ensures { OnOk result (text.new.items ≡ load_run_after ops.now text.old.items run.now) }
+{
+    put_written(text, run.transcript.items())?;
+    complete(text)?;
+    put_told(text, alloc, ops, run)
+}
+
 // Puts the text of the runs of the load among these.
-#[tactic(auto, unfolding(crate::specs::Output::load_text))]
+#[tactic(auto, unfolding(crate::specs::Output::load_runs_after))]
 fn put_load(text: &mut Vec<u8>, alloc: Global, ops: &Ops, runs: &[Run]) -> Result<(), Want>
-    ensures { OnOk result (text.new.items ≡ text.old.items ++ load_text ops.now runs.now) }
+    ensures { OnOk result (text.new.items ≡ load_runs_after ops.now text.old.items (filter is_of_load runs.now)) }
 {
     for run in runs {
         if is_of_load(run) {
@@ -277,9 +332,9 @@ fn put_load(text: &mut Vec<u8>, alloc: Global, ops: &Ops, runs: &[Run]) -> Resul
 }
 
 // Puts the texts of the runs of goals among these.
-#[tactic(auto, unfolding(crate::specs::Output::runs_text))]
+#[tactic(auto, unfolding(crate::specs::Output::runs_after))]
 fn put_goals(text: &mut Vec<u8>, alloc: Global, ops: &Ops, runs: &[Run]) -> Result<(), Want>
-    ensures { OnOk result (text.new.items ≡ text.old.items ++ runs_text ops.now 1 (filter is_of_goal runs.now)) }
+    ensures { OnOk result (text.new.items ≡ runs_after ops.now text.old.items 1 (filter is_of_goal runs.now)) }
 {
     let mut goals = 0;
     for run in runs {
@@ -292,6 +347,7 @@ fn put_goals(text: &mut Vec<u8>, alloc: Global, ops: &Ops, runs: &[Run]) -> Resu
 }
 
 /// The text of the load and of a refusal behind it, under an operator table.
+#[tactic(auto, unfolding(crate::specs::Output::load_text))]
 pub fn refused_text(
     alloc: Global,
     ops: &Ops,
@@ -306,10 +362,11 @@ pub fn refused_text(
     Ok(text)
 }
 
-/// The text of all runs under an operator table: for each of the load its line and its end, unless it had an answer and is
-/// exhausted, and then for each goal a heading with its number,
-/// counted from 1, a line for each answer with the values of the shown variables, and its end.
-#[tactic(auto, unfolding(crate::specs::Output::output_of))]
+/// The text of all runs under an operator table. For each of the load it has what it wrote, and then its line and its end, unless
+/// it had an answer and is exhausted; and then for each goal a heading with its number, counted from 1, what it wrote and a line
+/// for each answer with the values of the shown variables, in their order, and its end. A line whose end wasn't written is
+/// completed before an answer and behind the last event of a run.
+#[tactic(auto, unfolding(crate::specs::Output::output_of, crate::specs::Output::load_text))]
 pub fn output(alloc: Global, ops: &Ops, runs: &[Run]) -> Result<Vec<u8>, Want>
     ensures { IfOk result (λ text. text.items ≡ output_of ops.now runs.now) }
 {

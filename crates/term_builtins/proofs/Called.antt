@@ -6,25 +6,26 @@ use Rattle.term_store.specs.Terms.{trees_of}
 use Rattle.term_builtins.specs.declared.table.Relation.{Relation}
 use Rattle.term_builtins.specs.declared.table.Kind.{Kind}
 use Rattle.term_builtins.specs.declared.table.What.{What}
-use Rattle.term_builtins.specs.declared.table.What.TheVariants.{Unify, Differ, Order, Compare, Test, Functor, Argument, Univ, Copy, AtomLength, AtomCodes, AtomChars, CharCode, Evaluate, Numbers}
-use Rattle.term_builtins.specs.Meanings.{Meaning, Holds, with_one, with_two, with_three, meaning}
+use Rattle.term_builtins.specs.declared.table.What.TheVariants.{Unify, Differ, Order, Compare, Test, Functor, Argument, Univ, Copy, AtomLength, AtomCodes, AtomChars, CharCode, Evaluate, Numbers, Write, NewLine, PutChar}
+use Rattle.prolog_writer.specs.declared.style.Style.{Style}
+use Rattle.term_builtins.specs.Meanings.{Meaning, Holds, with_none, with_one, with_two, with_three, meaning}
 
 -- ---- as many as the slice has
 
--- not one, two or three
+-- more than three
 abbrev pub AreOthers : Trees → Type 0
-AreOthers none = Unit {0}
+AreOthers none = ⊥
 AreOthers (more t none) = ⊥
 AreOthers (more t (more u none)) = ⊥
 AreOthers (more t (more u (more v none))) = ⊥
 AreOthers (more t (more u (more v (more w ts)))) = Unit {0}
 
-pub none-others : (tree : Cell → Tree) (cs : List Cell) → length cs < 1 → AreOthers (trees_of tree cs)
-none-others tree [] h = tt
-none-others tree (a ∷ cs) h = absurd (omega arith)
+pub no_cells : (cs : List Cell) → length cs < 1 → cs ≡ []
+no_cells [] h = refl
+no_cells (a ∷ cs) h = absurd (omega arith)
 
 pub many-others : (tree : Cell → Tree) (cs : List Cell) → 4 ≤ length cs → AreOthers (trees_of tree cs)
-many-others tree [] h = tt
+many-others tree [] h = omega arith
 many-others tree (a ∷ []) h = omega arith
 many-others tree (a ∷ b ∷ []) h = omega arith
 many-others tree (a ∷ b ∷ c ∷ []) h = omega arith
@@ -42,19 +43,23 @@ three-cells (a ∷ b ∷ []) d h k = absurd (omega arith)
 three-cells (a ∷ b ∷ c ∷ []) d h k = refl
 three-cells (a ∷ b ∷ c ∷ e ∷ cs) d h k = absurd (omega arith)
 
+not-none : (m : Meaning) (ts : Trees) → AreOthers ts → with_none m ts ≡ Holds false
+not-none m none h = absurd h
+not-none m (more t ts) h = refl
+
 not-one : (f : Tree → Meaning) (ts : Trees) → AreOthers ts → with_one f ts ≡ Holds false
-not-one f none h = refl
+not-one f none h = absurd h
 not-one f (more t none) h = absurd h
 not-one f (more t (more u ts)) h = refl
 
 not-two : (f : Tree → Tree → Meaning) (ts : Trees) → AreOthers ts → with_two f ts ≡ Holds false
-not-two f none h = refl
+not-two f none h = absurd h
 not-two f (more t none) h = refl
 not-two f (more t (more u none)) h = absurd h
 not-two f (more t (more u (more v ts))) h = refl
 
 not-three : (f : Tree → Tree → Tree → Meaning) (ts : Trees) → AreOthers ts → with_three f ts ≡ Holds false
-not-three f none h = refl
+not-three f none h = absurd h
 not-three f (more t none) h = refl
 not-three f (more t (more u none)) h = refl
 not-three f (more t (more u (more v none))) h = absurd h
@@ -74,27 +79,53 @@ other-count AtomLength fresh ts h = not-two _ ts h
 other-count AtomCodes fresh ts h = not-two _ ts h
 other-count AtomChars fresh ts h = not-two _ ts h
 other-count CharCode fresh ts h = not-two _ ts h
+other-count (Write style) fresh ts h = not-one _ ts h
+other-count NewLine fresh ts h = not-none _ ts h
+other-count PutChar fresh ts h = not-one _ ts h
 other-count Evaluate fresh ts h = not-two _ ts h
 other-count (Numbers r) fresh ts h = not-two _ ts h
 
--- ---- one, two or three, and another builtin
+-- ---- none, one, two or three, and another builtin
 
-pub one-other : (what : What) (fresh : ℕ) (t : Tree) → ((k : Kind) → what ≡ Test k → ⊥) → meaning what fresh (more t none) ≡ Holds false
-one-other Unify fresh t h = refl
-one-other Differ fresh t h = refl
-one-other (Order r) fresh t h = refl
-one-other Compare fresh t h = refl
-one-other (Test k) fresh t h = absurd (h k refl)
-one-other Functor fresh t h = refl
-one-other Argument fresh t h = refl
-one-other Univ fresh t h = refl
-one-other Copy fresh t h = refl
-one-other AtomLength fresh t h = refl
-one-other AtomCodes fresh t h = refl
-one-other AtomChars fresh t h = refl
-one-other CharCode fresh t h = refl
-one-other Evaluate fresh t h = refl
-one-other (Numbers r) fresh t h = refl
+pub none-other : (what : What) (fresh : ℕ) → (what ≡ NewLine → ⊥) → meaning what fresh none ≡ Holds false
+none-other Unify fresh h = refl
+none-other Differ fresh h = refl
+none-other (Order r) fresh h = refl
+none-other Compare fresh h = refl
+none-other (Test k) fresh h = refl
+none-other Functor fresh h = refl
+none-other Argument fresh h = refl
+none-other Univ fresh h = refl
+none-other Copy fresh h = refl
+none-other AtomLength fresh h = refl
+none-other AtomCodes fresh h = refl
+none-other AtomChars fresh h = refl
+none-other CharCode fresh h = refl
+none-other (Write style) fresh h = refl
+none-other NewLine fresh h = absurd (h refl)
+none-other PutChar fresh h = refl
+none-other Evaluate fresh h = refl
+none-other (Numbers r) fresh h = refl
+
+pub one-other : (what : What) (fresh : ℕ) (t : Tree) → ((k : Kind) → what ≡ Test k → ⊥) → ((style : Style) → what ≡ Write style → ⊥) → (what ≡ PutChar → ⊥) → meaning what fresh (more t none) ≡ Holds false
+one-other Unify fresh t h w p = refl
+one-other Differ fresh t h w p = refl
+one-other (Order r) fresh t h w p = refl
+one-other Compare fresh t h w p = refl
+one-other (Test k) fresh t h w p = absurd (h k refl)
+one-other Functor fresh t h w p = refl
+one-other Argument fresh t h w p = refl
+one-other Univ fresh t h w p = refl
+one-other Copy fresh t h w p = refl
+one-other AtomLength fresh t h w p = refl
+one-other AtomCodes fresh t h w p = refl
+one-other AtomChars fresh t h w p = refl
+one-other CharCode fresh t h w p = refl
+one-other (Write style) fresh t h w p = absurd (w style refl)
+one-other NewLine fresh t h w p = refl
+one-other PutChar fresh t h w p = absurd (p refl)
+one-other Evaluate fresh t h w p = refl
+one-other (Numbers r) fresh t h w p = refl
 
 -- none of those that have two arguments
 pub record HasNotTwo (what : What) : Type 0 where
@@ -124,6 +155,9 @@ two-other AtomLength fresh t u h = absurd (h.atom_length refl)
 two-other AtomCodes fresh t u h = absurd (h.atom_codes refl)
 two-other AtomChars fresh t u h = absurd (h.atom_chars refl)
 two-other CharCode fresh t u h = absurd (h.char_code refl)
+two-other (Write style) fresh t u h = refl
+two-other NewLine fresh t u h = refl
+two-other PutChar fresh t u h = refl
 two-other Evaluate fresh t u h = absurd (h.evaluate refl)
 two-other (Numbers r) fresh t u h = absurd (h.numbers r refl)
 
@@ -142,5 +176,8 @@ three-other AtomLength fresh t u v c f a = refl
 three-other AtomCodes fresh t u v c f a = refl
 three-other AtomChars fresh t u v c f a = refl
 three-other CharCode fresh t u v c f a = refl
+three-other (Write style) fresh t u v c f a = refl
+three-other NewLine fresh t u v c f a = refl
+three-other PutChar fresh t u v c f a = refl
 three-other Evaluate fresh t u v c f a = refl
 three-other (Numbers r) fresh t u v c f a = refl

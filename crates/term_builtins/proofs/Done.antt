@@ -15,9 +15,10 @@ use Rattle.term_store.specs.Later.{IsLater, back, CanGoBack}
 use Rattle.term_store.specs.Heads.{IsFurther}
 use Rattle.term_store.proofs.Rows.{bindings-later}
 use Rattle.term_store.proofs.Laws.{back-later, longer-itself}
+use Rattle.prolog_writer.specs.declared.style.Style.{Style}
 use Rattle.term_builtins.specs.declared.answer.Answer.TheVariants as gives
-use Rattle.term_builtins.specs.declared.run.Did.TheVariants.{Yes, No, Ball}
-use Rattle.term_builtins.specs.Meanings.{Meaning, Holds, Equates, Raises}
+use Rattle.term_builtins.specs.declared.run.Did.TheVariants.{Yes, No, Wrote, Put, Ball}
+use Rattle.term_builtins.specs.Meanings.{Meaning, Holds, Equates, Writes, Puts, Raises}
 use Rattle.term_builtins.specs.Answers.{IsAnswer, IsDone}
 
 -- ---- unification
@@ -47,6 +48,8 @@ meaning-later texts s t v h later same =
 pub answer-cells : (texts : List (List ℕ)) (old new : Shape) (l r : Cell) (m : Meaning) → IsAnswer texts old new m (gives.Equates l r) → HasTerm (length texts) new l × HasTerm (length texts) new r
 answer-cells texts old new l r (Holds b) a = absurd a
 answer-cells texts old new l r (Equates k x y) a = (a.1, a.2)
+answer-cells texts old new l r (Writes style t) a = absurd a
+answer-cells texts old new l r (Puts bytes) a = absurd a
 answer-cells texts old new l r (Raises f) a = absurd a
 
 -- ---- what was done
@@ -56,19 +59,41 @@ module _ (texts : List (List ℕ)) (old : Shape) (at : Indicator) where
   done-true new (Holds true) a e = (a.1, e)
   done-true new (Holds false) a e = absurd (true≢false a.0)
   done-true new (Equates k l r) a e = absurd a
+  done-true new (Writes style t) a e = absurd a
+  done-true new (Puts bytes) a e = absurd a
   done-true new (Raises f) a e = absurd a
 
   pub done-false : (new : Shape) (m : Meaning) → IsAnswer texts old new m (gives.Holds false) → new.bindings ≡ old.bindings → IsDone texts old new at m No
   done-false new (Holds true) a e = absurd (true≢false (sym a.0))
   done-false new (Holds false) a e = (a.1, e)
   done-false new (Equates k l r) a e = absurd a
+  done-false new (Writes style t) a e = absurd a
+  done-false new (Puts bytes) a e = absurd a
   done-false new (Raises f) a e = absurd a
 
   pub done-raises : (new : Shape) (m : Meaning) (f : Fault) (t : Tree) → IsAnswer texts old new m (gives.Raises f) → t ≡ fault_tree f at → new.bindings ≡ old.bindings
       → IsDone texts old new at m (Ball t)
   done-raises new (Holds b) f t a is e = absurd a
   done-raises new (Equates k l r) f t a is e = absurd a
+  done-raises new (Writes style u) f t a is e = absurd a
+  done-raises new (Puts bytes) f t a is e = absurd a
   done-raises new (Raises g) f t a is e = (is ∙ ap (λ (h : Fault). fault_tree h at) a.0, (a.1, e))
+
+  pub done-writes : (new : Shape) (m : Meaning) (style : Style) (t : Tree) → IsAnswer texts old new m (gives.Writes style t) → new.bindings ≡ old.bindings
+      → IsDone texts old new at m (Wrote style t)
+  done-writes new (Holds b) style t a e = absurd a
+  done-writes new (Equates k l r) style t a e = absurd a
+  done-writes new (Writes s u) style t a e = (a.0, a.1, (a.2, e))
+  done-writes new (Puts bytes) style t a e = absurd a
+  done-writes new (Raises f) style t a e = absurd a
+
+  pub done-puts : (new : Shape) (m : Meaning) (bytes : List ℕ) → IsAnswer texts old new m (gives.Puts bytes) → new.bindings ≡ old.bindings
+      → IsDone texts old new at m (Put bytes)
+  done-puts new (Holds b) bytes a e = absurd a
+  done-puts new (Equates k l r) bytes a e = absurd a
+  done-puts new (Writes s u) bytes a e = absurd a
+  done-puts new (Puts bs) bytes a e = (a.0, (a.1, e))
+  done-puts new (Raises f) bytes a e = absurd a
 
   module _ (mid : Shape) (l r : Cell) where
     -- two cells were made one
@@ -83,6 +108,8 @@ module _ (texts : List (List ℕ)) (old : Shape) (at : Indicator) where
         λ v. u.2 v ∙ ap (substituted u.0) (meaning-later texts old mid v h later e),
       ),
     )
+    done-one new (Writes style t) h later e a same u = absurd a
+    done-one new (Puts bytes) h later e a same u = absurd a
     done-one new (Raises f) h later e a same u = absurd a
 
     -- and can't be made one
@@ -94,4 +121,6 @@ module _ (texts : List (List ℕ)) (old : Shape) (at : Indicator) where
       ap (λ (s : Shape). s.bindings) same ∙ e,
       subst (λ (t : Tree). (s : ℕ → Tree) → ¬ Unifies s t y) a.3 (subst (λ (t : Tree). (s : ℕ → Tree) → ¬ Unifies s (term_of texts mid l) t) a.4 none),
     )
+    done-apart new (Writes style t) e a same none = absurd a
+    done-apart new (Puts bytes) e a same none = absurd a
     done-apart new (Raises f) e a same none = absurd a

@@ -11,29 +11,26 @@ use Rattle.term_store.specs.Terms.{term_of, meaning as stands_for, HasTerm}
 use Rattle.term_builtins.specs.declared.answer.Answer.{Answer}
 use Rattle.term_builtins.specs.declared.answer.Answer.TheVariants as gives
 use Rattle.term_builtins.specs.declared.run.Did.{Did}
-use Rattle.term_builtins.specs.declared.run.Did.TheVariants.{Yes, No, Ball, Want}
+use Rattle.term_builtins.specs.declared.run.Did.TheVariants.{Yes, No, Wrote, Put, Ball, Want}
 use Rattle.term_builtins.specs.declared.table.What.TheVariants.{Unify}
 use Rattle.term_builtins.specs.declared.atoms.Byte.{Byte as Given}
 use Rattle.term_builtins.specs.declared.atoms.Byte.TheVariants as given
 use Rattle.term_builtins.specs.declared.atoms.Form.{Form}
 use Rattle.term_builtins.specs.declared.atoms.Form.TheVariants as form
-use Rattle.term_builtins.specs.Meanings.{Meaning, Holds, Equates, Raises, Byte, OfByte, NoByte, elements, list_end, code_tree, char_tree, code_element, char_element}
+use Rattle.term_builtins.specs.Meanings.{Meaning, Holds, Equates, Writes, Puts, Raises, Byte, OfByte, NoByte, elements, list_end, code_tree, char_tree, code_element, char_element}
 use Rattle.term_builtins.specs.Table.{Row}
 
 -- an answer says what the call comes to: the terms that are to be made one are cells of the new store
 abbrev pub IsAnswer : List (List ℕ) → Shape → Shape → Meaning → Answer → Type 0
 IsAnswer texts old new (Holds b) (gives.Holds c) = (c ≡ b) × (new.variables ≡ old.variables)
-IsAnswer texts old new (Holds b) (gives.Equates l r) = ⊥
-IsAnswer texts old new (Holds b) (gives.Raises f) = ⊥
-IsAnswer texts old new (Equates k a b) (gives.Holds c) = ⊥
 IsAnswer texts old new (Equates k a b) (gives.Equates l r) =
     (new.variables ≡ old.variables + k)
     × HasTerm (length texts) new l × HasTerm (length texts) new r
     × (term_of texts new l ≡ a) × (term_of texts new r ≡ b)
-IsAnswer texts old new (Equates k a b) (gives.Raises f) = ⊥
-IsAnswer texts old new (Raises f) (gives.Holds c) = ⊥
-IsAnswer texts old new (Raises f) (gives.Equates l r) = ⊥
+IsAnswer texts old new (Writes style t) (gives.Writes s u) = (s ≡ style) × (u ≡ t) × (new.variables ≡ old.variables)
+IsAnswer texts old new (Puts bytes) (gives.Puts b) = (b ≡ bytes) × (new.variables ≡ old.variables)
 IsAnswer texts old new (Raises f) (gives.Raises g) = (g ≡ f) × (new.variables ≡ old.variables)
+IsAnswer texts old new m a = ⊥
 
 -- no variable was made, and none was bound
 abbrev pub IsUnbound : Shape → Shape → Type 0
@@ -43,19 +40,16 @@ IsUnbound old new = (new.variables ≡ old.variables) × (new.bindings ≡ old.b
 abbrev pub IsDone : List (List ℕ) → Shape → Shape → Indicator → Meaning → Did → Type 0
 IsDone texts old new at m Want = Unit {0}
 IsDone texts old new at (Holds true) Yes = IsUnbound old new
-IsDone texts old new at (Holds false) Yes = ⊥
+IsDone texts old new at (Holds false) No = IsUnbound old new
 IsDone texts old new at (Equates k a b) Yes =
     (new.variables ≡ old.variables + k)
     × ((s : ℕ → Tree) × IsMostGeneral s a b × ((v : ℕ) → stands_for texts new v ≡ substituted s (stands_for texts old v)))
-IsDone texts old new at (Raises f) Yes = ⊥
-IsDone texts old new at (Holds true) No = ⊥
-IsDone texts old new at (Holds false) No = IsUnbound old new
 IsDone texts old new at (Equates k a b) No =
     (new.variables ≡ old.variables + k) × (new.bindings ≡ old.bindings) × ((r : ℕ → Tree) → ¬ Unifies r a b)
-IsDone texts old new at (Raises f) No = ⊥
-IsDone texts old new at (Holds b) (Ball t) = ⊥
-IsDone texts old new at (Equates k a b) (Ball t) = ⊥
+IsDone texts old new at (Writes style t) (Wrote s u) = (s ≡ style) × (u ≡ t) × IsUnbound old new
+IsDone texts old new at (Puts bytes) (Put b) = (b ≡ bytes) × IsUnbound old new
 IsDone texts old new at (Raises f) (Ball t) = (t ≡ fault_tree f at) × IsUnbound old new
+IsDone texts old new at m did = ⊥
 
 -- a row of the table by its number
 abbrev pub row_at : List Row → ℕ → Row

@@ -17,7 +17,8 @@ use Rattle.term_builtins.specs.declared.table.Relation.TheVariants as relation
 use Rattle.term_builtins.specs.declared.table.Kind.{Kind}
 use Rattle.term_builtins.specs.declared.table.Kind.TheVariants as kind
 use Rattle.term_builtins.specs.declared.table.What.{What}
-use Rattle.term_builtins.specs.declared.table.What.TheVariants.{Unify, Differ, Order, Compare, Test, Functor, Argument, Univ, Copy, AtomLength, AtomCodes, AtomChars, CharCode, Evaluate, Numbers}
+use Rattle.term_builtins.specs.declared.table.What.TheVariants.{Unify, Differ, Order, Compare, Test, Functor, Argument, Univ, Copy, AtomLength, AtomCodes, AtomChars, CharCode, Evaluate, Numbers, Write, NewLine, PutChar}
+use Rattle.prolog_writer.specs.declared.style.Style.{Style}
 use Rattle.prolog_arith.specs.Arithmetic.{Value, Is, Raises as Fails, evaluated}
 
 pub data Meaning : Type 0 where
@@ -25,6 +26,10 @@ pub data Meaning : Type 0 where
   Holds : Bool → Meaning
   -- so many new variables are made, and then two terms are made one
   Equates : (added : ℕ) (left right : Tree) → Meaning
+  -- it holds, and a term is written in a style
+  Writes : Style → Tree → Meaning
+  -- it holds, and bytes are written
+  Puts : List ℕ → Meaning
   -- an error, at the builtin's own name and arity
   Raises : Fault → Meaning
 
@@ -341,6 +346,12 @@ char_code (variable n) t = from_code (variable n) t
 char_code (atom a) t = by_byte (or_no (type_error (codes "character") (atom a)) (char_in a)) (λ code. to_code code t)
 char_code c t = type_error (codes "character") c
 
+-- ---- what is written
+
+-- put_char(C)
+abbrev pub putting : Tree → Meaning
+putting t = by_byte (char_element t) (λ c. Puts (c ∷ []))
+
 -- ---- arithmetic
 
 abbrev pub valued : Tree → Value → Meaning
@@ -359,6 +370,10 @@ compared_numbers r a b = compared_values r (evaluated a) (evaluated b)
 -- ---- all of them
 
 -- by so many arguments; no builtin has others
+abbrev pub with_none : Meaning → Trees → Meaning
+with_none m none = m
+with_none m (more t ts) = Holds false
+
 abbrev pub with_one : (Tree → Meaning) → Trees → Meaning
 with_one f none = Holds false
 with_one f (more t none) = f t
@@ -392,5 +407,8 @@ meaning AtomLength fresh ts = with_two atom_length ts
 meaning AtomCodes fresh ts = with_two (bytes_of_atom code_tree code_element) ts
 meaning AtomChars fresh ts = with_two (bytes_of_atom char_tree char_element) ts
 meaning CharCode fresh ts = with_two char_code ts
+meaning (Write style) fresh ts = with_one (λ t. Writes style (numbered t)) ts
+meaning NewLine fresh ts = with_none (Puts (10 ∷ [])) ts
+meaning PutChar fresh ts = with_one putting ts
 meaning Evaluate fresh ts = with_two (λ t u. valued t (evaluated u)) ts
 meaning (Numbers r) fresh ts = with_two (compared_numbers r) ts

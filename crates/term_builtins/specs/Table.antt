@@ -8,7 +8,8 @@ use Rattle.prolog_terms.specs.declared.entry.Indicator.{Indicator}
 use Rattle.term_builtins.specs.declared.table.Relation.TheVariants as relation
 use Rattle.term_builtins.specs.declared.table.Kind.TheVariants as kind
 use Rattle.term_builtins.specs.declared.table.What.{What}
-use Rattle.term_builtins.specs.declared.table.What.TheVariants.{Unify, Differ, Order, Compare, Test, Functor, Argument, Univ, Copy, AtomLength, AtomCodes, AtomChars, CharCode, Evaluate, Numbers}
+use Rattle.term_builtins.specs.declared.table.What.TheVariants.{Unify, Differ, Order, Compare, Test, Functor, Argument, Univ, Copy, AtomLength, AtomCodes, AtomChars, CharCode, Evaluate, Numbers, Write, NewLine, PutChar}
+use Rattle.prolog_writer.specs.declared.style.Style.TheVariants.{Plain, Quoted, Canonical}
 use Rattle.term_builtins.specs.Meanings.{is_less}
 
 pub record Row : Type 0 where
@@ -50,10 +51,15 @@ builtins =
     ∷ row (codes "functor") 3 Functor
     ∷ row (codes "integer") 1 (Test kind.Integer)
     ∷ row (codes "is") 2 Evaluate
+    ∷ row (codes "nl") 0 NewLine
     ∷ row (codes "nonvar") 1 (Test kind.Bound)
     ∷ row (codes "number") 1 (Test kind.Integer)
+    ∷ row (codes "put_char") 1 PutChar
     ∷ row (codes "unify_with_occurs_check") 2 Unify
-    ∷ row (codes "var") 1 (Test kind.Variable) ∷ []
+    ∷ row (codes "var") 1 (Test kind.Variable)
+    ∷ row (codes "write") 1 (Write Plain)
+    ∷ row (codes "write_canonical") 1 (Write Canonical)
+    ∷ row (codes "writeq") 1 (Write Quoted) ∷ []
 
 abbrev pub is_row : List ℕ → ℕ → Row → Bool
 is_row name arity r = is_named r.name name && (r.arity == arity)

@@ -11,9 +11,11 @@ use crate::compounds::{argument, copy, functor};
 use crate::kinds::{differ, is_of_kind};
 use crate::numbers::{evaluate, numbers};
 use crate::orders::{compare, ordered};
+use crate::output::put_char;
 use crate::table::What;
 use crate::univ::univ;
-use prolog_terms::{Fault, Names, Want};
+use prolog_terms::{Bytes, Fault, Names, Term, Want};
+use prolog_writer::Style;
 use std::alloc::Global;
 use term_store::{Cell, Store};
 
@@ -23,6 +25,10 @@ pub(crate) enum Answer {
     Holds(bool),
     /// These two cells are to be made one.
     Equates(Cell, Cell),
+    /// This term is written in this style.
+    Writes(Style, Term),
+    /// These bytes are written.
+    Puts(Bytes),
     Raises(Fault),
 }
 
@@ -41,22 +47,40 @@ pub(crate) fn come_to(
     ensures answer { IfOk result (IsAnswer names.new store.old store.new (meaning what store.old.variables (trees_of (term_of names.new store.old) args.now))) }
 {
     match args {
-        [] => Ok(Answer::Holds(false)),
-        [only] => answer_one(store, names, what, *only),
+        [] => answer_none(alloc, store, names, what),
+        [only] => answer_one(alloc, store, names, what, *only),
         [left, right] => answer_two(alloc, store, names, what, *left, *right),
         [first, second, third] => answer_three(alloc, store, names, what, *first, *second, *third),
         [_, _, _, _, ..] => Ok(Answer::Holds(false)),
     }
 }
 
+/// What a call with no argument comes to.
+fn answer_none(alloc: Global, store: &Store, names: &Names, what: What) -> Result<Answer, Want>
+    ensures answer { IfOk result (IsAnswer names.now store.now store.now (meaning what store.now.variables none)) }
+{
+    match what {
+        What::NewLine => Ok(Answer::Puts(Bytes::of(alloc, b"\n")?)),
+        _ => Ok(Answer::Holds(false)),
+    }
+}
+
 /// What a call with one argument comes to.
-fn answer_one(store: &Store, names: &Names, what: What, only: Cell) -> Result<Answer, Want>
+fn answer_one(
+    alloc: Global,
+    store: &Store,
+    names: &Names,
+    what: What,
+    only: Cell,
+) -> Result<Answer, Want>
     requires named { AreNamed (length names.now) store.now }
     requires valid { HasTerm (length names.now) store.now only }
     ensures answer { IfOk result (IsAnswer names.now store.now store.now (meaning what store.now.variables (more (term_of names.now store.now only) none))) }
 {
     match what {
         What::Test(kind) => Ok(Answer::Holds(is_of_kind(store, names, kind, only))),
+        What::Write(style) => Ok(Answer::Writes(style, store.read_back(names, only)?)),
+        What::PutChar => put_char(alloc, store, names, only),
         _ => Ok(Answer::Holds(false)),
     }
 }

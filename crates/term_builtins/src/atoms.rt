@@ -265,7 +265,7 @@ fn byte_in(alloc: Global, value: Whole) -> Result<Byte, Want>
 }
 
 /// The byte of an atom of one byte.
-fn char_of(alloc: Global, store: &Store, names: &Names, cell: Cell) -> Result<Byte, Want>
+pub(crate) fn char_of(alloc: Global, store: &Store, names: &Names, cell: Cell) -> Result<Byte, Want>
     requires named { AreNamed (length names.now) store.now }
     requires valid { HasTerm (length names.now) store.now cell }
     ensures { IfOk result (IsByte (char_element (term_of names.now store.now cell))) }

@@ -1,7 +1,7 @@
 //! The builtins on terms: which there are, and what each does to the terms of a store.
 //!
 //! `specs/Table.antt` is the table of the builtins, and `specs/Meanings.antt` what each means: a test, two terms that are made one,
-//! or an error. `run_builtin` does that over cells. No call recurses on a term.
+//! something that is written, or an error. `run_builtin` does that over cells. No call recurses on a term.
 #![tactic(auto)]
 
 mod answer;
@@ -13,6 +13,7 @@ mod kinds;
 mod lists;
 mod numbers;
 mod orders;
+mod output;
 mod run;
 mod table;
 #[cfg(test)]

@@ -9,7 +9,8 @@ ghost use Rattle.prolog_terms.specs.Faults.{fault_tree};
 
 use crate::answer::{Answer, come_to};
 use crate::table::row_of;
-use prolog_terms::{Fault, Indicator, Name, Names, Term, Want, fault_term};
+use prolog_terms::{Bytes, Fault, Indicator, Name, Names, Term, Want, fault_term};
+use prolog_writer::Style;
 use std::alloc::Global;
 use term_store::{Cell, Store};
 
@@ -20,6 +21,10 @@ pub enum Did {
     Yes,
     /// It fails, and nothing is bound.
     No,
+    /// It holds, and writes this term in this style; nothing is bound.
+    Wrote(Style, Term),
+    /// It holds, and writes these bytes; nothing is bound.
+    Put(Bytes),
     /// It raises this ball, an error at its own name and arity, and nothing is bound.
     Ball(Term),
     /// An allocation was refused. Variables may be bound, and are undone by going back to a mark.
@@ -73,6 +78,8 @@ fn try_run(
             store.undo_to(mark);
             Ok(Did::No)
         }
+        Answer::Writes(style, term) => Ok(Did::Wrote(style, term)),
+        Answer::Puts(bytes) => Ok(Did::Put(bytes)),
         Answer::Raises(fault) => Ok(Did::Ball(ball(alloc, fault, row)?)),
     }
 }

@@ -4,6 +4,8 @@ ghost use Rattle.term_builtins.specs.Table.{builtins};
 ghost use Rattle.term_builtins.specs.Answers.{row_at};
 ghost use Rattle.term_builtins.specs.Rows.{told};
 
+use prolog_writer::Style;
+
 /// How two values stand in an order.
 #[derive(Clone, Copy, Debug, Drop, PartialEq)]
 pub enum Relation {
@@ -56,6 +58,12 @@ pub enum What {
     AtomCodes,
     AtomChars,
     CharCode,
+    /// A term is written.
+    Write(Style),
+    /// Byte 10 is written.
+    NewLine,
+    /// An atom of one byte is written.
+    PutChar,
     /// The value of an arithmetic term.
     Evaluate,
     /// The values of two arithmetic terms stand so.
@@ -71,7 +79,7 @@ pub struct Builtin {
 }
 
 /// The builtins on terms, in order of the bytes of their names, and then of how many arguments they have.
-pub const BUILTINS: [Builtin; 33] = [
+pub const BUILTINS: [Builtin; 38] = [
     Builtin {
         name: b"<",
         arity: 2,
@@ -218,6 +226,11 @@ pub const BUILTINS: [Builtin; 33] = [
         what: What::Evaluate,
     },
     Builtin {
+        name: b"nl",
+        arity: 0,
+        what: What::NewLine,
+    },
+    Builtin {
         name: b"nonvar",
         arity: 1,
         what: What::Test(Kind::Bound),
@@ -228,6 +241,11 @@ pub const BUILTINS: [Builtin; 33] = [
         what: What::Test(Kind::Integer),
     },
     Builtin {
+        name: b"put_char",
+        arity: 1,
+        what: What::PutChar,
+    },
+    Builtin {
         name: b"unify_with_occurs_check",
         arity: 2,
         what: What::Unify,
@@ -236,6 +254,21 @@ pub const BUILTINS: [Builtin; 33] = [
         name: b"var",
         arity: 1,
         what: What::Test(Kind::Variable),
+    },
+    Builtin {
+        name: b"write",
+        arity: 1,
+        what: What::Write(Style::Plain),
+    },
+    Builtin {
+        name: b"write_canonical",
+        arity: 1,
+        what: What::Write(Style::Canonical),
+    },
+    Builtin {
+        name: b"writeq",
+        arity: 1,
+        what: What::Write(Style::Quoted),
     },
 ];
 

@@ -227,6 +227,42 @@ pub(crate) const GIVING: [(&str, &str); 58] = [
     ("is/2 _0 <</2 1 62", "is/2 4611686018427387904 <</2 1 62"),
 ];
 
+/// Goals that write, and what: a term in a style, or bytes.
+pub(crate) const WRITING: [(&str, &str); 20] = [
+    ("write/1 a", "wrote/2 plain a"),
+    ("write/1 -7", "wrote/2 plain -7"),
+    ("write/1 _0", "wrote/2 plain _0"),
+    ("write/1 +/2 1 2", "wrote/2 plain +/2 1 2"),
+    ("write/1 ./2 a []", "wrote/2 plain ./2 a []"),
+    ("writeq/1 ''", "wrote/2 quoted ''"),
+    ("writeq/1 #39", "wrote/2 quoted #39"),
+    ("writeq/1 -/1 1", "wrote/2 quoted -/1 1"),
+    ("writeq/1 f/1 _0", "wrote/2 quoted f/1 _0"),
+    ("write_canonical/1 A", "wrote/2 canonical A"),
+    ("write_canonical/1 +/2 1 2", "wrote/2 canonical +/2 1 2"),
+    ("write_canonical/1 _0", "wrote/2 canonical _0"),
+    // variables by first occurrence
+    ("write/1 f/3 _2 _0 _2", "wrote/2 plain f/3 _0 _1 _0"),
+    ("writeq/1 f/2 _1 g/1 _0", "wrote/2 quoted f/2 _0 g/1 _1"),
+    ("write_canonical/1 f/2 _1 _0", "wrote/2 canonical f/2 _0 _1"),
+    // bytes
+    ("nl", "put/1 ./2 10 []"),
+    ("put_char/1 a", "put/1 ./2 97 []"),
+    ("put_char/1 #0", "put/1 ./2 0 []"),
+    ("put_char/1 #10", "put/1 ./2 10 []"),
+    ("put_char/1 #255", "put/1 ./2 255 []"),
+];
+
+/// Goals that are to write and raise an error, and what it says.
+pub(crate) const UNWRITTEN: [(&str, &str); 6] = [
+    ("put_char/1 _0", "instantiation_error"),
+    ("put_char/1 97", "type_error/2 character 97"),
+    ("put_char/1 f/2 _1 _0", "type_error/2 character f/2 _0 _1"),
+    ("put_char/1 ab", "type_error/2 character ab"),
+    ("put_char/1 []", "type_error/2 character []"),
+    ("put_char/1 ''", "type_error/2 character ''"),
+];
+
 /// Goals that raise an error, and what it says.
 pub(crate) const RAISING: [(&str, &str); 72] = [
     ("compare/3 1 a b", "type_error/2 atom 1"),

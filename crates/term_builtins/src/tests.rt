@@ -4,9 +4,10 @@ ghost use Rattle.term_store.specs.Terms.{HasTerm, AreNamed};
 ghost use Rattle.term_store.specs.Heads.{IsFurther};
 ghost use Rattle.term_builtins.specs.Table.{builtins};
 
-use crate::test_rows::{FAILING, GIVING, HOLDING, RAISING};
+use crate::test_rows::{FAILING, GIVING, HOLDING, RAISING, UNWRITTEN, WRITING};
 use crate::{BUILTINS, Did, find_builtin, run_builtin};
-use prolog_terms::{Name, Names, Node, Term, Want, Whole};
+use prolog_terms::{Bytes, Name, Names, Node, Term, Want, Whole};
+use prolog_writer::Style;
 use std::alloc::Global;
 use term_store::{Cell, Store, View, above_variables};
 
@@ -78,7 +79,7 @@ fn ball(alloc: Global, goal: &str, error: &str) -> Result<Term, Want> {
     term(nodes)
 }
 
-/// What a call comes to: the goal with its values, the atom `fail`, or the ball.
+/// What a call comes to: the goal with its values, the atom `fail`, `wrote(Style, Term)`, `put(Codes)`, or the ball.
 fn outcome(alloc: Global, source: &Term) -> Result<Term, Want> {
     let mut store = Store::new(alloc);
     let mut names = Names::new(alloc);
@@ -113,15 +114,62 @@ fn called(alloc: Global, store: &mut Store, names: &mut Names, goal: Cell) -> Re
         View::Compound(name, arguments) => {
             let cells = Vec::from_slice(alloc, arguments)?;
             let row = row_of(names.text(name), cells.len())?;
-            match run_builtin(alloc, store, names, row, cells.as_slice()) {
-                Did::Yes => store.read_back(names, goal),
-                Did::No => read(alloc, "fail"),
-                Did::Ball(ball) => Ok(ball),
-                Did::Want => Err(Want),
-            }
+            let did = run_builtin(alloc, store, names, row, cells.as_slice());
+            told(alloc, store, names, goal, did)
+        }
+        View::Atom(name) => {
+            let row = row_of(names.text(name), 0)?;
+            let did = run_builtin(alloc, store, names, row, &[]);
+            told(alloc, store, names, goal, did)
         }
         _ => Err(Want),
     }
+}
+
+/// What was done, as a term.
+fn told(alloc: Global, store: &Store, names: &Names, goal: Cell, did: Did) -> Result<Term, Want>
+    requires named { AreNamed (length names.now) store.now }
+    requires valid { HasTerm (length names.now) store.now goal }
+{
+    match did {
+        Did::Yes => store.read_back(names, goal),
+        Did::No => read(alloc, "fail"),
+        Did::Wrote(style, term) => wrote(alloc, style, &term),
+        Did::Put(bytes) => put(alloc, &bytes),
+        Did::Ball(ball) => Ok(ball),
+        Did::Want => Err(Want),
+    }
+}
+
+/// The term `wrote(Style, Term)` of a term that is written.
+fn wrote(alloc: Global, style: Style, written: &Term) -> Result<Term, Want> {
+    let mut nodes = Vec::new(alloc);
+    push_words(alloc, &mut nodes, "wrote/2")?;
+    push_words(alloc, &mut nodes, style_word(style))?;
+    for node in written.nodes() {
+        nodes.push(node.clone()?)?;
+    }
+    term(nodes)
+}
+
+fn style_word(style: Style) -> &'static str {
+    match style {
+        Style::Plain => "plain",
+        Style::Quoted => "quoted",
+        Style::Canonical => "canonical",
+    }
+}
+
+/// The term `put(Codes)` of bytes that are written.
+fn put(alloc: Global, bytes: &Bytes) -> Result<Term, Want> {
+    let mut nodes = Vec::new(alloc);
+    push_words(alloc, &mut nodes, "put/1")?;
+    for byte in bytes.bytes() {
+        push_words(alloc, &mut nodes, "./2")?;
+        nodes.push(Node::Int(Whole::from(*byte)))?;
+    }
+    push_words(alloc, &mut nodes, "[]")?;
+    term(nodes)
 }
 
 /// Calls the three goals that are the arguments of a term, one after the other, and gives the term with its values.
@@ -190,6 +238,26 @@ fn goals_give_values(rt: HostRuntime) -> Result<(), Want> {
     for (text, values) in GIVING {
         let goal = read(rt.alloc(), text)?;
         let expected = read(rt.alloc(), values)?;
+        assert!(rt; comes_to(rt.alloc(), &goal, &expected)?, "{text}");
+    }
+    Ok(())
+}
+
+#[test]
+fn goals_write(rt: HostRuntime) -> Result<(), Want> {
+    for (text, written) in WRITING {
+        let goal = read(rt.alloc(), text)?;
+        let expected = read(rt.alloc(), written)?;
+        assert!(rt; comes_to(rt.alloc(), &goal, &expected)?, "{text}");
+    }
+    Ok(())
+}
+
+#[test]
+fn goals_that_are_to_write_raise_errors(rt: HostRuntime) -> Result<(), Want> {
+    for (text, error) in UNWRITTEN {
+        let goal = read(rt.alloc(), text)?;
+        let expected = ball(rt.alloc(), text, error)?;
         assert!(rt; comes_to(rt.alloc(), &goal, &expected)?, "{text}");
     }
     Ok(())
@@ -338,9 +406,14 @@ fn names_beside_rows_are_not_found(rt: HostRuntime) -> Result<(), Want> {
         longer.push(b'x')?;
         assert_eq!(rt; find_builtin(longer.as_slice(), row.arity), None);
         assert_eq!(rt; find_builtin(row.name, row.arity.saturating_add(1)), None);
-        assert_eq!(rt; find_builtin(row.name, row.arity.saturating_sub(1)), None);
+        if let Some(fewer) = row.arity.checked_sub(1) {
+            assert_eq!(rt; find_builtin(row.name, fewer), None);
+        }
     }
     assert_eq!(rt; find_builtin(b"", 2), None);
     assert_eq!(rt; find_builtin(b"varying", 1), None);
+    assert_eq!(rt; find_builtin(b"n", 0), None);
+    assert_eq!(rt; find_builtin(b"writ", 1), None);
+    assert_eq!(rt; find_builtin(b"write_", 1), None);
     Ok(())
 }

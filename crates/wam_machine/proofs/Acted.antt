@@ -1,5 +1,5 @@
 -- What a construct does to the mode and the terms, as what the definition does to the engine's states.
-use Rattle.std.proofs.Common.{◌≡◌, ℕ, suc, ◌+◌, add-one, List, [], ◌∷◌, ◌++◌, length, take, refl, sym, ap, ap₂, ◌∙◌, arith, append-nil}
+use Rattle.std.proofs.Common.{◌≡◌, ℕ, suc, ◌+◌, add-one, List, [], ◌∷◌, ◌++◌, length, take, refl, sym, ap, ap₂, ◌∙◌, arith, append-nil, Vec, Global}
 use Rattle.std.specs.List.{cons_option}
 use Rattle.std.specs.Prelude.{Option, None, Result, Ok, Err, OnOk, IfOk}
 use Rattle.std.proofs.lemmas.List.{length-append}
@@ -52,7 +52,7 @@ module _ {C : Type 0} (old new : Machine C) (terms : AreTerms new.terms) (same :
       → Acts f old new
   acts f t is shown calls_are goes = record {
     terms = terms;
-    same = same;
+    same = same ∙ ap (λ (e : Vec Event Global). let r : Machine C = record old { mode = new.mode; terms = new.terms; events = e } in r) (sym (ap (λ (m : Machine C). m.events) same));
     shown = ap (λ (s : Said C). s.shown) is ∙ shown;
     calls_are = ap (λ (s : Said C). calls_in s.stack) is ∙ calls_are;
     goes = λ rest at j looks tried fronts.

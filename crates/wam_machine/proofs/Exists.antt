@@ -2,6 +2,9 @@
 use Rattle.std.proofs.Common.{◌≡◌, ℕ, zero, suc, ◌+◌, ◌-◌, ◌<◌, ◌≤◌, ◌⊎◌, List, [], ◌∷◌, ◌++◌, Bool, true, false, length, take, replicate, map, refl, sym, ◌∙◌, subst, arith, inl, inr}
 use Rattle.std.specs.Prelude.{pos, All, Option, Some, None, ◌==◌, ◌&&◌, if◌then◌else◌, nat_le, nat_lt, codes}
 use Rattle.std.proofs.lemmas.List.Elements.{All-head}
+use Rattle.prolog_terms.specs.Operators.{Table}
+use Rattle.prolog_writer.specs.Pieces.{written}
+use Rattle.wam_machine.specs.declared.run.Event.TheVariants.{Wrote}
 use Rattle.prolog_terms.specs.Tree.{Tree, Trees, variable, integer, atom, compound, count}
 use Rattle.prolog_terms.specs.Substitutions.{renamed, substituted, numbered, beyond}
 use Rattle.prolog_terms.specs.Faults.{two, fault_tree}
@@ -15,7 +18,7 @@ use Rattle.term_unifier.specs.Unifier.{unifier}
 use Rattle.wam_machine.specs.declared.run.RunEnd.{RunEnd}
 use Rattle.wam_machine.specs.declared.run.RunEnd.TheVariants.{Exhausted, Ball, Spent, Halted}
 use Rattle.prolog_terms.specs.Clauses.{body_of, call_term}
-use Rattle.term_builtins.specs.Meanings.{Meaning, Holds, Equates, Raises}
+use Rattle.term_builtins.specs.Meanings.{Meaning, Holds, Equates, Writes, Puts, Raises}
 use Rattle.wam_machine.specs.Control.{Control, True, Fail, Cut, Repeat, Both, Either, IfElse, If, Not, Call, Once, Catch, Throw, Halt, HaltWith, Builtin, User, control_of, with_added}
 use Rattle.wam_machine.specs.Machine.{Next, Do, ConditionEnd, NotEnd, CatchEnd, Alternative, Clauses, Right, Again, NotMark, CatchMark, Choice, Mode, Going, Failing, Raising, State, Setting, Report, Outcome, Goes, Ends, Unfit, made_all, over, stepping, onwards, pushed, height, cut_to, not_callable, answer, next_under, solving, numbering, body_from, leaving, trying, candidate_clauses, looked, called, calling, call_with, raises, running, calling_added, denying, catching, throwing, halting, halt_with, not_integer, cut_back, active_catch, recovering, reaching, reached, caught, repeating, performing, doing, goal_move, going, back_to, taken, failing, raising, move, beginning, Runs, ends, goes, Misfits, unfit, later, Transcript, EachGoalRuns, CanBeDone, IsWellMade, HasBodies, coming_to, calling_builtin}
 use Rattle.wam_machine.proofs.WellMade.{HasParts, parts, goes-makes, begins-well}
@@ -45,18 +48,20 @@ solving-on new s None = record { next = record s { mode = Failing }; goes_on = �
 solving-on new s (Some m) = record { next = record s { goals = map (next_under m) (new ++ s.goals); bindings = λ v. substituted m (s.bindings v) }; goes_on = λ fs. refl; front_is = refl; steps_is = refl }
 
 -- what a builtin comes to, by what it looked at before
-coming_to-on : (i : Indicator) (s : State) (m : Meaning) → On s (λ fs. coming_to i (at s fs) m)
+coming_to-on : (ops : Table) (i : Indicator) (s : State) (m : Meaning) → On s (λ fs. coming_to ops i (at s fs) m)
 unfolding at
-coming_to-on i s (Holds true) = record { next = s; goes_on = λ fs. refl; front_is = refl; steps_is = refl }
-coming_to-on i s (Holds false) = record { next = record s { mode = Failing }; goes_on = λ fs. refl; front_is = refl; steps_is = refl }
-coming_to-on i s (Equates added a b) =
+coming_to-on ops i s (Writes style t) = record { next = record s { events = s.events ++ Wrote (written ops style 1200 t) ∷ [] }; goes_on = λ fs. refl; front_is = refl; steps_is = refl }
+coming_to-on ops i s (Puts bytes) = record { next = record s { events = s.events ++ Wrote bytes ∷ [] }; goes_on = λ fs. refl; front_is = refl; steps_is = refl }
+coming_to-on ops i s (Holds true) = record { next = s; goes_on = λ fs. refl; front_is = refl; steps_is = refl }
+coming_to-on ops i s (Holds false) = record { next = record s { mode = Failing }; goes_on = λ fs. refl; front_is = refl; steps_is = refl }
+coming_to-on ops i s (Equates added a b) =
     let k : On (record s { fresh = s.fresh + added }) _ = solving-on [] (record s { fresh = s.fresh + added }) (unifier a b) in
     record { next = k.next; goes_on = k.goes_on; front_is = k.front_is; steps_is = k.steps_is }
-coming_to-on i s (Raises fault) = record { next = record s { mode = Raising (fault_tree fault i) }; goes_on = λ fs. refl; front_is = refl; steps_is = refl }
+coming_to-on ops i s (Raises fault) = record { next = record s { mode = Raising (fault_tree fault i) }; goes_on = λ fs. refl; front_is = refl; steps_is = refl }
 
-builtin-on : (row : ℕ) (args : Trees) (s : State) → On s (λ fs. calling_builtin row args (at s fs))
+builtin-on : (ops : Table) (row : ℕ) (args : Trees) (s : State) → On s (λ fs. calling_builtin ops row args (at s fs))
 unfolding at calling_builtin
-builtin-on row args s = coming_to-on _ s _
+builtin-on ops row args s = coming_to-on ops _ s _
 
 trying-on : (goal : Tree) (cs : List Clause) (s : State) → On s (λ fs. trying goal cs (at s fs))
 unfolding at
@@ -181,7 +186,7 @@ module _ (x : Setting) (made : made_all x ≡ true) where
   doing-kind goal cut s (Throw b) le = stepped-on (length x.journal) s (performing x goal cut (Throw b)) le (λ t. throwing-on b t)
   doing-kind goal cut s Halt le = stepped-over (length x.journal) s (Halted (pos 0)) (performing x goal cut Halt) (λ t. refl)
   doing-kind goal cut s (HaltWith n) le = halting-kind (length x.journal) n s le
-  doing-kind goal cut s (Builtin row args) le = stepped-on (length x.journal) s (performing x goal cut (Builtin row args)) le (λ t. builtin-on row args t)
+  doing-kind goal cut s (Builtin row args) le = stepped-on (length x.journal) s (performing x goal cut (Builtin row args)) le (λ t. builtin-on x.ops row args t)
   doing-kind goal cut s (User i) le = called-kind s goal i le
 
   going-kind : (s : State) (gs : List Next) → All CanBeDone gs → s.front ≤ length x.journal → Kind (length x.journal) x.budget s (λ fs. going x (at s fs) gs)

@@ -47,7 +47,7 @@ is_simple (User i) h = tt
 
 -- the setting is the same as long as the shown term is
 pub same_setting : {C : Type 0} (h : Host) (m n : Machine C) (j : Journal) → (said n.terms).shown ≡ (said m.terms).shown → setting h n j ≡ setting h m j
-same_setting h m n j e = ap (λ (t : Tree). let x : Setting = record { engine = h.engine; journal = j; start = h.start; budget = h.budget; shown = t } in x) e
+same_setting h m n j e = ap (λ (t : Tree). let x : Setting = record { engine = h.engine; journal = j; start = h.start; budget = h.budget; shown = t; ops = h.ops.now } in x) e
 
 -- what is to be done next is taken, and nothing else is done
 abbrev pub IsTaken : {C : Type 0} → Said C → Said C → Type 0

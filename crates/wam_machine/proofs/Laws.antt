@@ -2,6 +2,7 @@
 use Rattle.std.proofs.Common.{◌≡◌, ℕ, suc, ◌+◌, ◌≤◌, List, [], ◌∷◌, Bool, true, false, refl, sym, ◌∙◌, subst, arith, inl, inr}
 use Rattle.std.specs.Prelude.{pos, ◌-◌, ◌==◌, ◌≢◌, ◌⊎◌, ◌&&◌, nat_le, nat_lt, codes, if◌then◌else◌, Option, Some, None, take, length}
 use Rattle.std.proofs.lemmas.Bool.Decides.{eqb_tells}
+use Rattle.prolog_terms.specs.Operators.{Table}
 use Rattle.prolog_terms.specs.Tree.{Tree, Trees, variable, integer, atom, compound, count}
 use Rattle.prolog_terms.specs.declared.fault.Fault.TheVariants.{Representation}
 use Rattle.prolog_terms.specs.declared.entry.Clause.{Clause}
@@ -11,7 +12,7 @@ use Rattle.journal_base.specs.Keys.{keys}
 use Rattle.prolog_terms.specs.Substitutions.{renamed, beyond}
 use Rattle.term_unifier.specs.Unifier.{unifier}
 use Rattle.prolog_terms.specs.Clauses.{body_of}
-use Rattle.term_builtins.specs.Meanings.{Meaning, Holds, Equates, Raises}
+use Rattle.term_builtins.specs.Meanings.{Meaning, Holds, Equates, Writes, Puts, Raises}
 use Rattle.wam_machine.specs.Control.{Control, True, Fail, Cut, Repeat, Both, Either, IfElse, If, Not, Call, Once, Catch, Throw, Halt, HaltWith, Builtin, User, control_of, with_added}
 use Rattle.wam_machine.specs.declared.run.RunEnd.{RunEnd}
 use Rattle.wam_machine.specs.declared.run.RunEnd.TheVariants.{Exhausted, Ball, Spent, Halted}
@@ -65,15 +66,17 @@ solving-keeps goals s (Some m) = refl
 equating-keeps : (a b : Tree) (goals : List Next) (s : State) → Keeps s.steps (equating a b goals s)
 equating-keeps a b goals s = solving-keeps goals s (unifier a b)
 
-coming_to-keeps : (at : Indicator) (s : State) (m : Meaning) → Keeps s.steps (coming_to at s m)
-coming_to-keeps at s (Holds true) = refl
-coming_to-keeps at s (Holds false) = refl
-coming_to-keeps at s (Equates added a b) = equating-keeps a b [] (record s { fresh = s.fresh + added })
-coming_to-keeps at s (Raises fault) = refl
+coming_to-keeps : (ops : Table) (at : Indicator) (s : State) (m : Meaning) → Keeps s.steps (coming_to ops at s m)
+coming_to-keeps ops at s (Holds true) = refl
+coming_to-keeps ops at s (Holds false) = refl
+coming_to-keeps ops at s (Writes style t) = refl
+coming_to-keeps ops at s (Puts bytes) = refl
+coming_to-keeps ops at s (Equates added a b) = equating-keeps a b [] (record s { fresh = s.fresh + added })
+coming_to-keeps ops at s (Raises fault) = refl
 
-builtin-keeps : (row : ℕ) (args : Trees) (s : State) → Keeps s.steps (calling_builtin row args s)
+builtin-keeps : (ops : Table) (row : ℕ) (args : Trees) (s : State) → Keeps s.steps (calling_builtin ops row args s)
 unfolding calling_builtin
-builtin-keeps row args s = coming_to-keeps _ s _
+builtin-keeps ops row args s = coming_to-keeps ops _ s _
 
 entering-keeps : (goal : Tree) (c : Clause) (from cut : ℕ) (s : State) → Keeps s.steps (entering goal c from cut s)
 entering-keeps goal c from cut s = equating-keeps (renamed from c.head) goal (body_from from cut c) s
@@ -157,7 +160,7 @@ performing-keeps x goal cut (Catch g c r) s = catching-keeps g c r s (body_of g)
 performing-keeps x goal cut (Throw b) s = throwing-keeps b s
 performing-keeps x goal cut Halt s = over-keeps x s (Halted (pos 0))
 performing-keeps x goal cut (HaltWith n) s = halting-keeps x n s
-performing-keeps x goal cut (Builtin row args) s = builtin-keeps row args s
+performing-keeps x goal cut (Builtin row args) s = builtin-keeps x.ops row args s
 performing-keeps x goal cut (User i) s = calling-keeps x s goal i
 
 performed-within : (x : Setting) (goal : Tree) (cut : ℕ) (s : State) (c : Control) → s.steps ≤ x.budget → Within x.budget (stepping x s (performing x goal cut c))

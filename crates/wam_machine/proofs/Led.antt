@@ -21,7 +21,7 @@ use Rattle.wam_machine.specs.declared.state.Machine.{Machine}
 
 -- the setting is the same while the shown term is
 pub one_setting : {C : Type 0} (h : Host) (m n : Machine C) (j : Journal) → (said n.terms).shown ≡ (said m.terms).shown → setting h n j ≡ setting h m j
-one_setting h m n j e = ap (λ (t : Tree). let x : Setting = record { engine = h.engine; journal = j; start = h.start; budget = h.budget; shown = t } in x) e
+one_setting h m n j e = ap (λ (t : Tree). let x : Setting = record { engine = h.engine; journal = j; start = h.start; budget = h.budget; shown = t; ops = h.ops.now } in x) e
 
 -- ---- lists that go on
 

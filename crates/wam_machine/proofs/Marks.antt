@@ -2,6 +2,7 @@
 use Rattle.std.proofs.Common.{◌≡◌, ℕ, zero, suc, ◌+◌, ◌-◌, ◌<◌, ◌≤◌, List, [], ◌∷◌, ◌++◌, Bool, true, false, length, drop, take, map, refl, sym, ap, ◌∙◌, subst, arith, length-drop, drop-drop}
 use Rattle.std.specs.Prelude.{pos, Option, Some, None, ◌==◌, ◌&&◌, if◌then◌else◌, nat_le, nat_lt, codes}
 use Rattle.std.proofs.lemmas.Bool.Decides.{nat_tests}
+use Rattle.prolog_terms.specs.Operators.{Table}
 use Rattle.prolog_terms.specs.Tree.{Tree, Trees, variable, integer, atom, compound, count}
 use Rattle.prolog_terms.specs.Clauses.{body_of, call_term}
 use Rattle.prolog_terms.specs.Substitutions.{renamed, beyond}
@@ -11,7 +12,7 @@ use Rattle.prolog_terms.specs.declared.fault.Fault.TheVariants.{Representation}
 use Rattle.journal_base.specs.Journal.{Journal, number_of}
 use Rattle.journal_base.specs.Keys.{keys}
 use Rattle.term_unifier.specs.Unifier.{unifier}
-use Rattle.term_builtins.specs.Meanings.{Meaning, Holds as Held, Equates, Raises}
+use Rattle.term_builtins.specs.Meanings.{Meaning, Holds as Held, Equates, Writes, Puts, Raises}
 use Rattle.wam_machine.specs.Control.{Control, True, Fail, Cut, Repeat, Both, Either, IfElse, If, Not, Call, Once, Catch, Throw, Halt, HaltWith, Builtin, User, control_of, with_added, is_true_atom}
 use Rattle.wam_machine.specs.declared.run.RunEnd.{RunEnd}
 use Rattle.wam_machine.specs.declared.run.RunEnd.TheVariants.{Exhausted, Ball, Spent, Halted}
@@ -174,15 +175,17 @@ solving-kept : (new : List Next) (s : State) (o : Option (ℕ → Tree)) → Nes
 solving-kept new s None n h = record { nested = h.nested; stacked = h.stacked }
 solving-kept new s (Some m) n h = record { nested = nested_under m s.stack (new ++ s.goals) n; stacked = h.stacked }
 
-coming_to-kept : (at : Indicator) (s : State) (m : Meaning) → Holds s → Kept (coming_to at s m)
-coming_to-kept at s (Held true) h = h
-coming_to-kept at s (Held false) h = record { nested = h.nested; stacked = h.stacked }
-coming_to-kept at s (Equates added a b) h = solving-kept [] (record s { fresh = s.fresh + added }) (unifier a b) h.nested (record { nested = h.nested; stacked = h.stacked })
-coming_to-kept at s (Raises fault) h = record { nested = h.nested; stacked = h.stacked }
+coming_to-kept : (ops : Table) (at : Indicator) (s : State) (m : Meaning) → Holds s → Kept (coming_to ops at s m)
+coming_to-kept ops at s (Held true) h = h
+coming_to-kept ops at s (Writes style t) h = record { nested = h.nested; stacked = h.stacked }
+coming_to-kept ops at s (Puts bytes) h = record { nested = h.nested; stacked = h.stacked }
+coming_to-kept ops at s (Held false) h = record { nested = h.nested; stacked = h.stacked }
+coming_to-kept ops at s (Equates added a b) h = solving-kept [] (record s { fresh = s.fresh + added }) (unifier a b) h.nested (record { nested = h.nested; stacked = h.stacked })
+coming_to-kept ops at s (Raises fault) h = record { nested = h.nested; stacked = h.stacked }
 
-builtin-kept : (row : ℕ) (args : Trees) (s : State) → Holds s → Kept (calling_builtin row args s)
+builtin-kept : (ops : Table) (row : ℕ) (args : Trees) (s : State) → Holds s → Kept (calling_builtin ops row args s)
 unfolding calling_builtin
-builtin-kept row args s h = coming_to-kept _ s _ h
+builtin-kept ops row args s h = coming_to-kept ops _ s _ h
 
 body-nested : (from cut : ℕ) (c : Clause) (st : List Choice) (gs : List Next) → low gs ≤ cut → Nested st gs → Nested st (body_from from cut c ++ gs)
 body-nested from cut c st gs l h = go (is_true_atom c.body)
@@ -295,7 +298,7 @@ performing-kept x goal cut (Catch g c r) s l h = catching-kept g c r s (body_of 
 performing-kept x goal cut (Throw b) s l h = throwing-kept b s h
 performing-kept x goal cut Halt s l h = over-kept x s (Halted (pos 0))
 performing-kept x goal cut (HaltWith n) s l h = halting-kept x n s h
-performing-kept x goal cut (Builtin row args) s l h = builtin-kept row args s h
+performing-kept x goal cut (Builtin row args) s l h = builtin-kept x.ops row args s h
 performing-kept x goal cut (User i) s l h = calling-kept x s goal i h
 
 stepping-kept : (x : Setting) (s : State) (then_ : State → Outcome) → Kept (then_ (record s { steps = suc s.steps })) → Kept (stepping x s then_)

@@ -208,3 +208,15 @@ newest-open stack ss s b (us, (u, (is, left))) e =
 pub newest-catch : {C : Type 0} (stack ss : List (Saved C)) (s : Saved C) (b : Bool) → HasCatch stack b → stack ≡ ss ++ s ∷ [] → is_catch s.turn ≡ b
 newest-catch stack ss s b (us, (u, (is, left))) e =
     ap (λ (r : Saved _). is_catch r.turn) (sym (lastly-is s ss s) ∙ ap (lastly s) (sym e ∙ is) ∙ lastly-is s us u) ∙ left
+
+-- where nothing was done but to the terms, what is counted is as it was
+pub counts_same : {C : Type 0} (old new : Machine C) → AreTerms new.terms → (said new.terms).shown ≡ (said old.terms).shown → new ≡ record old { terms = new.terms } → KeepsCounts old new
+counts_same {C} old new terms shown same = record {
+  terms = terms;
+  shown = shown;
+  steps = ap (λ (m : Machine C). m.steps) same;
+  events = ap (λ (m : Machine C). m.events.items) same;
+  front = ap (λ (m : Machine C). m.front) same;
+  fronts = ap (λ (m : Machine C). m.fronts.items) same;
+  tally = let e : new.tally ≡ old.tally = ap (λ (m : Machine C). m.tally) same in e ∙ ap (λ (n : ℕ). record old.tally { visits = n }) (sym (ap (λ (t : Tally). t.visits) e));
+}

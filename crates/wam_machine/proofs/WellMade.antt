@@ -3,6 +3,7 @@ use Rattle.std.proofs.Common.{◌≡◌, ℕ, zero, suc, ◌+◌, ◌-◌, List,
 use Rattle.std.specs.Prelude.{pos, All, IsTrue, IfSome, IsSome, Option, Some, None, ◌==◌, ◌&&◌, ◌||◌, if◌then◌else◌, nat_le, nat_lt, codes, filter_map, slice_get, option_and_then}
 use Rattle.std.specs.List.{cons_option}
 use Rattle.std.proofs.lemmas.List.Elements.{All-nil, All-cons, All-head, All-tail, All-append, All-take, All-drop}
+use Rattle.prolog_terms.specs.Operators.{Table}
 use Rattle.prolog_terms.specs.Tree.{Tree, Trees, variable, integer, atom, compound, none, more, count}
 use Rattle.prolog_terms.specs.Substitutions.{substituted, renamed, beyond}
 use Rattle.prolog_terms.specs.Clauses.{is_named, is_connective, is_body, body_of, call_term}
@@ -15,7 +16,7 @@ use Rattle.journal_base.specs.Journal.{Journal, number_of, clause_named, added}
 use Rattle.journal_base.specs.Candidates.{candidates}
 use Rattle.journal_base.specs.Keys.{keys}
 use Rattle.term_unifier.specs.Unifier.{unifier}
-use Rattle.term_builtins.specs.Meanings.{Meaning, Holds, Equates, Raises}
+use Rattle.term_builtins.specs.Meanings.{Meaning, Holds, Equates, Writes, Puts, Raises}
 use Rattle.term_builtins.specs.Table.{builtins, place_in}
 use Rattle.wam_machine.specs.Control.{Control, True, Fail, Cut, Repeat, Both, Either, IfElse, If, Not, Call, Once, Catch, Throw, Halt, HaltWith, Builtin, User, control_of, control_with_none, control_with_one, control_of_either, control_with_two, control_with_three, control_with_more, or_call, first_body, with_added, is_true_atom, builtin_or_user, plain}
 use Rattle.wam_machine.specs.declared.run.RunEnd.{RunEnd}
@@ -149,15 +150,17 @@ solving-makes : (new : List Next) (s : State) (o : Option (ℕ → Tree)) → Al
 solving-makes new s None n h = record { goals = h.goals; stack = h.stack }
 solving-makes new s (Some m) n h = record { goals = all_under-done m (new ++ s.goals) (All-append CanBeDone new s.goals n h.goals); stack = h.stack }
 
-coming_to-makes : (at : Indicator) (s : State) (m : Meaning) → IsWellMade s → Makes (coming_to at s m)
-coming_to-makes at s (Holds true) h = h
-coming_to-makes at s (Holds false) h = record { goals = h.goals; stack = h.stack }
-coming_to-makes at s (Equates added a b) h = solving-makes [] (record s { fresh = s.fresh + added }) (unifier a b) (All-nil CanBeDone) (record { goals = h.goals; stack = h.stack })
-coming_to-makes at s (Raises fault) h = record { goals = h.goals; stack = h.stack }
+coming_to-makes : (ops : Table) (at : Indicator) (s : State) (m : Meaning) → IsWellMade s → Makes (coming_to ops at s m)
+coming_to-makes ops at s (Holds true) h = h
+coming_to-makes ops at s (Writes style t) h = record { goals = h.goals; stack = h.stack }
+coming_to-makes ops at s (Puts bytes) h = record { goals = h.goals; stack = h.stack }
+coming_to-makes ops at s (Holds false) h = record { goals = h.goals; stack = h.stack }
+coming_to-makes ops at s (Equates added a b) h = solving-makes [] (record s { fresh = s.fresh + added }) (unifier a b) (All-nil CanBeDone) (record { goals = h.goals; stack = h.stack })
+coming_to-makes ops at s (Raises fault) h = record { goals = h.goals; stack = h.stack }
 
-builtin-makes : (row : ℕ) (args : Trees) (s : State) → IsWellMade s → Makes (calling_builtin row args s)
+builtin-makes : (ops : Table) (row : ℕ) (args : Trees) (s : State) → IsWellMade s → Makes (calling_builtin ops row args s)
 unfolding calling_builtin
-builtin-makes row args s h = coming_to-makes _ s _ h
+builtin-makes ops row args s h = coming_to-makes ops _ s _ h
 
 -- one more first
 first_done : (g : Tree) (cut : ℕ) (ns : List Next) → is_body g ≡ true → All CanBeDone ns → All CanBeDone (Do g cut ∷ ns)
@@ -294,7 +297,7 @@ performing-makes x goal cut (Catch g c r) s b p h = catching-makes g c r s (body
 performing-makes x goal cut (Throw t) s b p h = throwing-makes t s h
 performing-makes x goal cut Halt s b p h = over-makes x s (Halted (pos 0))
 performing-makes x goal cut (HaltWith n) s b p h = halting-makes x n s h
-performing-makes x goal cut (Builtin row args) s b p h = builtin-makes row args s h
+performing-makes x goal cut (Builtin row args) s b p h = builtin-makes x.ops row args s h
 performing-makes x goal cut (User i) s b p h = calling-makes x s goal i b h
 
 stepping-makes : (x : Setting) (s : State) (then_ : State → Outcome) → Makes (then_ (record s { steps = suc s.steps })) → Makes (stepping x s then_)

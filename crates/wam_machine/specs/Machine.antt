@@ -6,6 +6,7 @@
 use Rattle.std.specs.Prelude.{IsTrue, IfSome, IsSome, All, ◌≡◌, ℕ, suc, pos, ◌+◌, ◌-◌, ◌≤◌, ◌⊎◌, Bool, true, false, ◌==◌, ◌&&◌, List, [], ◌∷◌, ◌++◌, length, replicate, take, drop, nat_le, nat_lt, if◌then◌else◌, Option, Some, None, codes, filter_map, map}
 use Rattle.std.specs.List.{list_any}
 use Rattle.prolog_terms.specs.Tree.{Tree, Trees, variable, integer, atom, compound, none, more, count}
+use Rattle.prolog_terms.specs.Operators.{Table}
 use Rattle.prolog_terms.specs.Substitutions.{substituted, numbered, renamed, beyond}
 use Rattle.prolog_terms.specs.Clauses.{is_body, call_term, body_of}
 use Rattle.prolog_terms.specs.Faults.{two, fault_tree}
@@ -22,12 +23,13 @@ use Rattle.journal_base.specs.Candidates.{candidates}
 use Rattle.journal_base.specs.Calls.{Goal}
 use Rattle.journal_base.specs.View.{entries_by}
 use Rattle.term_unifier.specs.Unifier.{unifier}
-use Rattle.term_builtins.specs.Meanings.{Meaning, Holds, Equates, Raises, meaning}
+use Rattle.term_builtins.specs.Meanings.{Meaning, Holds, Equates, Writes, Puts, Raises, meaning}
 use Rattle.term_builtins.specs.Table.{builtins, indicator}
+use Rattle.prolog_writer.specs.Pieces.{written}
 use Rattle.term_builtins.specs.Answers.{row_at}
 use Rattle.wam_machine.specs.Control.{Control, True, Fail, Cut, Repeat, Both, Either, IfElse, If, Not, Call, Once, Catch, Throw, Halt, HaltWith, Builtin, User, control_of, first_body, with_added, body_goals}
 use Rattle.wam_machine.specs.declared.run.Event.{Event}
-use Rattle.wam_machine.specs.declared.run.Event.TheVariants.{Answer}
+use Rattle.wam_machine.specs.declared.run.Event.TheVariants.{Answer, Wrote}
 use Rattle.wam_machine.specs.declared.run.RunEnd.{RunEnd}
 use Rattle.wam_machine.specs.declared.run.RunEnd.TheVariants.{Exhausted, Ball, Spent, Halted}
 
@@ -94,14 +96,16 @@ pub record State : Type 0 where
   pub front : ℕ
   pub fronts : List ℕ
 
--- what a run stands on: the engine that makes it, the journal at its end, the front at its beginning, its budget of steps, and
--- the term of which each answer gives the value
+-- what a run stands on: the engine that makes it, the journal at its end, the front at its beginning, its budget of steps, the
+-- term of which each answer gives the value, and the operators under which terms are written
 pub record Setting : Type 0 where
   pub engine : ℕ
   pub journal : Journal
   pub start : ℕ
   pub budget : ℕ
   pub shown : Tree
+  -- the operators under which its goals write
+  pub ops : Table
 
 -- what a run gives
 pub record Report : Type 0 where
@@ -294,16 +298,22 @@ halting x (compound f ts) s = raises (not_integer (compound f ts)) halt_with s
 
 -- ---- builtins on terms
 
--- what a builtin's call comes to is done; its errors stand at its own name and arity
-abbrev pub coming_to : Indicator → State → Meaning → Outcome
-coming_to at s (Holds true) = Goes s
-coming_to at s (Holds false) = fails s
-coming_to at s (Equates added a b) = equating a b [] (record s { fresh = s.fresh + added })
-coming_to at s (Raises fault) = raises fault at s
+-- these bytes are written, which is an event
+abbrev pub writing : List ℕ → State → Outcome
+writing bytes s = Goes (record s { events = s.events ++ Wrote bytes ∷ [] })
+
+-- what a builtin's call comes to is done, under these operators; its errors stand at its own name and arity
+abbrev pub coming_to : Table → Indicator → State → Meaning → Outcome
+coming_to ops at s (Holds true) = Goes s
+coming_to ops at s (Holds false) = fails s
+coming_to ops at s (Equates added a b) = equating a b [] (record s { fresh = s.fresh + added })
+coming_to ops at s (Writes style t) = writing (written ops style 1200 t) s
+coming_to ops at s (Puts bytes) = writing bytes s
+coming_to ops at s (Raises fault) = raises fault at s
 
 -- the builtin at a place of the table
-unfoldable pub calling_builtin : ℕ → Trees → State → Outcome
-calling_builtin row args s = coming_to (indicator (row_at builtins row)) s (meaning (row_at builtins row).what s.fresh args)
+unfoldable pub calling_builtin : Table → ℕ → Trees → State → Outcome
+calling_builtin ops row args s = coming_to ops (indicator (row_at builtins row)) s (meaning (row_at builtins row).what s.fresh args)
 
 -- ---- goals
 
@@ -328,7 +338,7 @@ performing x goal cut (Catch g c r) s = catching g c r s (body_of g)
 performing x goal cut (Throw b) s = throwing b s
 performing x goal cut Halt s = over x s (Halted (pos 0))
 performing x goal cut (HaltWith n) s = halting x n s
-performing x goal cut (Builtin row args) s = calling_builtin row args s
+performing x goal cut (Builtin row args) s = calling_builtin x.ops row args s
 performing x goal cut (User i) s = calling x s goal i
 
 -- a conjunction takes no step, and every other goal takes one

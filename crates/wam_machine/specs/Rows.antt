@@ -1,6 +1,7 @@
 -- Worked rows: texts of clauses as journals, goals over them, and what their runs give.
 use Rattle.std.specs.Prelude.{ℕ, zero, suc, pos, List, [], ◌∷◌, length, codes, true, false}
 use Rattle.prolog_terms.specs.Tree.{Tree, Trees, variable, integer, atom, compound, none, more}
+use Rattle.prolog_terms.specs.Operators.{initial_operators}
 use Rattle.prolog_terms.specs.Faults.{fault_tree}
 use Rattle.prolog_terms.specs.declared.entry.Entry.{Entry}
 use Rattle.prolog_terms.specs.declared.entry.Indicator.{Indicator}
@@ -60,7 +61,7 @@ fact number head = clause number head truth 0
 -- ---- what a run gives
 
 abbrev pub on : Journal → ℕ → List Tree → Setting
-on journal budget shown = record { engine = 1; journal = journal; start = length journal; budget = budget; shown = list_of shown }
+on journal budget shown = record { engine = 1; journal = journal; start = length journal; budget = budget; shown = list_of shown; ops = initial_operators }
 
 -- A goal with these shown variables, over this journal by engine 1, at these fronts and within this budget, gives these events, so many
 -- steps and this end, for some looks.

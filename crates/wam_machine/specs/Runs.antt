@@ -2,6 +2,7 @@
 use Rattle.std.specs.Prelude.{◌≡◌, ◌≢◌, ℕ, ◌+◌, ◌≤◌, List, [], ◌∷◌, length, take, All, IsTrue}
 use Rattle.std.specs.List.{sum_by, AllZip}
 use Rattle.prolog_terms.specs.Tree.{Tree}
+use Rattle.prolog_terms.specs.Operators.{Table}
 use Rattle.prolog_terms.specs.Substitutions.{occurs}
 use Rattle.journal_base.specs.Journal.{Journal}
 use Rattle.journal_base.specs.View.{View}
@@ -48,14 +49,14 @@ pub record IsTranscribed (x : Setting) (causes : List ℕ) (goal : Tree) (run : 
 abbrev pub AreShown : Goal → Type 0
 AreShown goal = All (λ s. IsTrue (occurs s.var goal.term)) goal.shown
 
-abbrev pub setting_of : View → ℕ → ℕ → Goal → Journal → Setting
-setting_of v start budget goal J = record { engine = v.number; journal = J; start = start; budget = budget; shown = shown_list goal.shown }
+abbrev pub setting_of : Table → View → ℕ → ℕ → Goal → Journal → Setting
+setting_of ops v start budget goal J = record { engine = v.number; journal = J; start = start; budget = budget; shown = shown_list goal.shown; ops = ops }
 
--- A run of a goal of the command line by a base's engine, from a front on and within a budget: unless memory was wanted it is the transcript over
--- each journal that the base stands for.
-pub record IsRunOf (v : View) (start budget : ℕ) (goal : Goal) (run : Run) : Type 0 where
+-- A run of a goal of the command line by a base's engine, from a front on, within a budget and under an operator table: unless memory was
+-- wanted it is the transcript over each journal that the base stands for.
+pub record IsRunOf (ops : Table) (v : View) (start budget : ℕ) (goal : Goal) (run : Run) : Type 0 where
   pub engine : run.engine ≡ v.number
   pub line : run.line ≡ 0
   pub within : run.steps ≤ budget
   pub shown : run.end ≢ Want → run.shown ≡ goal.shown
-  pub transcribed : run.end ≢ Want → (J : Journal) → v.stands_for J → IsTranscribed (setting_of v start budget goal J) v.causes goal.term run
+  pub transcribed : run.end ≢ Want → (J : Journal) → v.stands_for J → IsTranscribed (setting_of ops v start budget goal J) v.causes goal.term run

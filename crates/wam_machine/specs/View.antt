@@ -27,7 +27,7 @@ use Rattle.wam_machine.specs.declared.state.Machine.{Machine}
 use Rattle.wam_machine.specs.declared.state.Host.{Host}
 
 abbrev pub setting : {C : Type 0} → Host → Machine C → Journal → Setting
-setting h m j = record { engine = h.engine; journal = j; start = h.start; budget = h.budget; shown = (said m.terms).shown }
+setting h m j = record { engine = h.engine; journal = j; start = h.start; budget = h.budget; shown = (said m.terms).shown; ops = h.ops.now }
 
 -- ---- states
 
@@ -171,11 +171,11 @@ Does rest may at ahead causes f x old new o = MatchOption o (GoesOn rest may at 
 abbrev pub performs_goal : Setting → Tree → ℕ → State → Outcome
 performs_goal x goal cut s = goal_move x goal cut s (control_of goal)
 
--- A function of states goes on from the old machine to the new one, with nothing done but to the mode and the terms: no call is
--- looked up, tried or given up.
+-- A function of states goes on from the old machine to the new one, with nothing done but to the mode, the terms and the events: no
+-- call is looked up, tried or given up.
 pub record Acts {C : Type 0} (f : State → Outcome) (old new : Machine C) : Type 0 where
   pub terms : AreTerms new.terms
-  pub same : new ≡ record old { mode = new.mode; terms = new.terms }
+  pub same : new ≡ record old { mode = new.mode; terms = new.terms; events = new.events }
   pub shown : (said new.terms).shown ≡ (said old.terms).shown
   pub calls_are : calls new ≡ calls old
   pub goes : (rest : C → Asked → Journal → List ℕ) (at : C → ℕ) (j : Journal) (looks : List Look) (tried : ℕ) (fronts : List ℕ)

@@ -21,9 +21,10 @@ use crate::errors::{
     call_indicator, catch_indicator, not_indicator, too_many, unbound, unbound_ball, uncallable,
 };
 use crate::goals::push_next;
+use crate::run::Event;
 use crate::state::{Machine, Mode};
 use crate::terms::{Alternative, Next};
-use prolog_terms::{Indicator, Want};
+use prolog_terms::{Indicator, Ops, Want};
 use std::alloc::Global;
 use term_store::Cell;
 
@@ -31,6 +32,7 @@ use term_store::Cell;
 pub(crate) fn construct<C>(
     machine: &mut Machine<C>,
     alloc: Global,
+    ops: &Ops,
     cut: usize,
     control: Control,
 ) -> Result<(), Want>
@@ -38,7 +40,7 @@ pub(crate) fn construct<C>(
     requires among { AreAmong (IsBuilt machine.old.terms) control }
     requires goals { AreGoals (IsGoal machine.old.terms) control }
     requires construct { IsConstruct control }
-    ensures acts { OnOk result ((x : Setting) (goal : Tree) → Acts (performing x goal cut (control_in (built machine.old.terms) control)) machine.old machine.new) }
+    ensures acts { OnOk result ((x : Setting) (goal : Tree) → x.ops ≡ ops.now → Acts (performing x goal cut (control_in (built machine.old.terms) control)) machine.old machine.new) }
     ensures err { OnErr result (calls machine.new ≡ calls machine.old) }
 {
     match control {
@@ -58,7 +60,7 @@ pub(crate) fn construct<C>(
         Control::Throw(ball) => throw(machine, alloc, ball),
         Control::Halt => unreachable!(),
         Control::HaltWith(_) => unreachable!(),
-        Control::Builtin(row, args) => builtin(machine, alloc, row, args.as_slice()),
+        Control::Builtin(row, args) => builtin(machine, alloc, ops, row, args.as_slice()),
         Control::Cut => unreachable!(),
         Control::Both(_, _) => unreachable!(),
         Control::User(_) => unreachable!(),
@@ -68,6 +70,7 @@ pub(crate) fn construct<C>(
 /// Succeeds, with a further turn as an alternative.
 pub(crate) fn repeat<C>(machine: &mut Machine<C>) -> Result<(), Want>
     requires terms { AreTerms machine.old.terms }
+    ensures same { machine.new ≡ record machine.old { terms = machine.new.terms } }
     ensures acts { OnOk result (Acts repeating machine.old machine.new) }
     ensures err { OnErr result (calls machine.new ≡ calls machine.old) }
 {
@@ -297,23 +300,28 @@ fn once<C>(machine: &mut Machine<C>, goal: Cell, cut: usize) -> Result<(), Want>
     push_next(&mut machine.terms, Next::Do(made, cut))
 }
 
-/// Calls a builtin on terms: it holds, fails, or raises a ball.
+/// Calls a builtin on terms: it holds, fails, writes, or raises a ball.
 fn builtin<C>(
     machine: &mut Machine<C>,
     alloc: Global,
+    ops: &Ops,
     row: usize,
     args: &[Cell],
 ) -> Result<(), Want>
     requires terms { AreTerms machine.old.terms }
     requires row { row < length builtins }
     requires args { All (IsBuilt machine.old.terms) args.now }
-    ensures acts { OnOk result (Acts (calling_builtin row (trees_of (built machine.old.terms) args.now)) machine.old machine.new) }
+    ensures acts { OnOk result (Acts (calling_builtin ops.now row (trees_of (built machine.old.terms) args.now)) machine.old machine.new) }
     ensures err { OnErr result (calls machine.new ≡ calls machine.old) }
 {
-    match call_row(alloc, &mut machine.terms, row, args)? {
+    match call_row(alloc, &mut machine.terms, ops, row, args)? {
         Called::Yes => Ok(()),
         Called::No => {
             machine.mode = Mode::Failing;
+            Ok(())
+        }
+        Called::Wrote(bytes) => {
+            machine.events.push(Event::Wrote(bytes))?;
             Ok(())
         }
         Called::Ball(ball) => {

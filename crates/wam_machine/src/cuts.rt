@@ -51,7 +51,7 @@ pub(crate) fn cut_back<B: Base>(base: &mut B, terms: &mut Terms<B::Cursor>, heig
 pub(crate) fn cut_stack<B: Base>(
     base: &mut B,
     machine: &mut Machine<B::Cursor>,
-    host: &Host,
+    host: &Host<'_>,
     height: usize,
 )
     requires ready { IsReady (B.view base.old) (B.serves base.old) B.group (B.out base.old) B.rest B.may_visit B.looked_at host.now.budget machine.old }
@@ -69,7 +69,7 @@ pub(crate) fn cut_stack<B: Base>(
 pub(crate) fn end_not<B: Base>(
     base: &mut B,
     machine: &mut Machine<B::Cursor>,
-    host: &Host,
+    host: &Host<'_>,
     height: usize,
 )
     requires ready { IsReady (B.view base.old) (B.serves base.old) B.group (B.out base.old) B.rest B.may_visit B.looked_at host.now.budget machine.old }
@@ -87,7 +87,7 @@ pub(crate) fn end_not<B: Base>(
 pub(crate) fn leave_catch<B: Base>(
     base: &mut B,
     machine: &mut Machine<B::Cursor>,
-    host: &Host,
+    host: &Host<'_>,
     height: usize,
 )
     requires ready { IsReady (B.view base.old) (B.serves base.old) B.group (B.out base.old) B.rest B.may_visit B.looked_at host.now.budget machine.old }

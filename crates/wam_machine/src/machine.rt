@@ -31,7 +31,7 @@ use term_store::Cell;
 pub(crate) fn advance<B: Base, R: Wait, G: Gate>(
     base: &mut B,
     machine: &mut Machine<B::Cursor>,
-    host: &Host,
+    host: &Host<'_>,
     rt: &R,
     gate: &G,
 ) -> Result<Option<RunEnd>, Want>
@@ -54,7 +54,7 @@ pub(crate) fn advance<B: Base, R: Wait, G: Gate>(
 fn go_on<B: Base, R: Wait, G: Gate>(
     base: &mut B,
     machine: &mut Machine<B::Cursor>,
-    host: &Host,
+    host: &Host<'_>,
     rt: &R,
     gate: &G,
 ) -> Result<Option<RunEnd>, Want>
@@ -107,7 +107,7 @@ fn answer<C>(machine: &mut Machine<C>) -> Result<(), Want>
 fn do_goal<B: Base, R: Wait, G: Gate>(
     base: &mut B,
     machine: &mut Machine<B::Cursor>,
-    host: &Host,
+    host: &Host<'_>,
     goal: Cell,
     cut: usize,
     rt: &R,
@@ -151,7 +151,7 @@ fn conjoin<C>(machine: &mut Machine<C>, left: Cell, right: Cell, cut: usize) -> 
 fn perform<B: Base, R: Wait, G: Gate>(
     base: &mut B,
     machine: &mut Machine<B::Cursor>,
-    host: &Host,
+    host: &Host<'_>,
     goal: Cell,
     cut: usize,
     control: Control,
@@ -190,7 +190,7 @@ fn perform<B: Base, R: Wait, G: Gate>(
             Ok(end)
         }
         other => {
-            construct(machine, host.alloc, cut, other)?;
+            construct(machine, host.alloc, host.ops, cut, other)?;
             let _front = base.front();
             Ok(None)
         }
@@ -201,7 +201,7 @@ fn perform<B: Base, R: Wait, G: Gate>(
 fn retry<B: Base>(
     base: &mut B,
     machine: &mut Machine<B::Cursor>,
-    host: &Host,
+    host: &Host<'_>,
 ) -> Result<Option<RunEnd>, Want>
     requires failing { machine.old.mode ≡ Mode.Failing }
     requires ready { IsReady (B.view base.old) (B.serves base.old) B.group (B.out base.old) B.rest B.may_visit B.looked_at host.now.budget machine.old }
@@ -242,7 +242,7 @@ fn pass_mark<C>(machine: &mut Machine<C>)
 fn retake<B: Base>(
     base: &mut B,
     machine: &mut Machine<B::Cursor>,
-    host: &Host,
+    host: &Host<'_>,
 ) -> Result<Option<RunEnd>, Want>
     requires failing { machine.old.mode ≡ Mode.Failing }
     requires newest { HasNewest (said machine.old.terms).stack true }

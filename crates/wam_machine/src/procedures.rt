@@ -30,7 +30,7 @@ use term_store::Cell;
 pub(crate) fn call<B: Base, R: Wait, G: Gate>(
     base: &mut B,
     machine: &mut Machine<B::Cursor>,
-    host: &Host,
+    host: &Host<'_>,
     goal: Cell,
     indicator: &Indicator,
     rt: &R,
@@ -63,7 +63,7 @@ pub(crate) fn call<B: Base, R: Wait, G: Gate>(
 fn miss<B: Base>(
     base: &mut B,
     machine: &mut Machine<B::Cursor>,
-    host: &Host,
+    host: &Host<'_>,
     indicator: &Indicator,
 ) -> Result<(), Want>
     requires absent { (j : Journal) → Begins (B.view base.old) j → number_of (first_of (B.view base.old).seen j) indicator.now ≡ None }
@@ -86,7 +86,7 @@ fn miss<B: Base>(
 fn look<B: Base>(
     base: &mut B,
     machine: &mut Machine<B::Cursor>,
-    host: &Host,
+    host: &Host<'_>,
     goal: Cell,
     procedure: u32,
 ) -> Result<(), Want>

@@ -31,7 +31,7 @@ use term_store::Cell;
 pub(crate) fn raise<B: Base>(
     base: &mut B,
     machine: &mut Machine<B::Cursor>,
-    host: &Host,
+    host: &Host<'_>,
 ) -> Result<Option<RunEnd>, Want>
     requires raising { IsRaising machine.old.mode }
     requires ready { IsReady (B.view base.old) (B.serves base.old) B.group (B.out base.old) B.rest B.may_visit B.looked_at host.now.budget machine.old }
@@ -63,7 +63,7 @@ pub(crate) fn raise<B: Base>(
 fn reach<B: Base>(
     base: &mut B,
     machine: &mut Machine<B::Cursor>,
-    host: &Host,
+    host: &Host<'_>,
 ) -> Result<Option<RunEnd>, Want>
     requires raising { IsRaising machine.old.mode }
     requires ready { IsReady (B.view base.old) (B.serves base.old) B.group (B.out base.old) B.rest B.may_visit B.looked_at host.now.budget machine.old }

@@ -2,7 +2,7 @@
 ghost use Rattle.std.specs.Prelude.{◌≡◌, [], ◌++◌, ◌∷◌, OnOk, OnErr};
 
 use journal_base::Tally;
-use prolog_terms::{ShownVariables, Term, Want, Whole};
+use prolog_terms::{Bytes, ShownVariables, Term, Want, Whole};
 use std::alloc::Global;
 use std::marker::Model;
 
@@ -19,6 +19,8 @@ pub enum Event {
     /// An answer: the list of the shown variables' values, with its variables numbered from 0 by first occurrence; `left`
     /// says whether a choice point is left, so that more may follow.
     Answer { values: Term, left: bool },
+    /// Bytes that a goal wrote.
+    Wrote(Bytes),
 }
 
 /// How a run ends.

@@ -15,7 +15,7 @@ use crate::shown::begin;
 use crate::state::{Host, Machine, Mode};
 use crate::terms::{Terms, let_go};
 use journal_base::{Base, Gate, Tally};
-use prolog_terms::{ShownVariables, Want};
+use prolog_terms::{Ops, ShownVariables, Want};
 use std::alloc::Global;
 use std::sync::Wait;
 
@@ -23,6 +23,7 @@ use std::sync::Wait;
 pub(crate) fn run<B: Base, R: Wait, G: Gate>(
     base: &mut B,
     alloc: Global,
+    ops: &Ops,
     rt: &R,
     goal: &Goal,
     budget: u64,
@@ -31,7 +32,7 @@ pub(crate) fn run<B: Base, R: Wait, G: Gate>(
     requires shown { AreShown goal.now }
     requires budget { budget ≤ 10 ^ 11 }
     requires out { B.out base.old ≡ none_out }
-    ensures run { IfOk result (IsRunOf (B.view base.new) (B.view base.old).seen budget goal.now) }
+    ensures run { IfOk result (IsRunOf ops.now (B.view base.new) (B.view base.old).seen budget goal.now) }
     ensures seen { Looks (B.view base.old) (B.view base.new) }
     ensures becomes { B.becomes base.old base.new }
     ensures out { B.out base.new ≡ none_out }
@@ -41,6 +42,7 @@ pub(crate) fn run<B: Base, R: Wait, G: Gate>(
         engine: base.number(),
         start: base.front(),
         budget,
+        ops,
     };
     let shown = goal.shown.clone()?;
     let mut machine = first(alloc, goal, host.start)?;
@@ -76,7 +78,7 @@ fn first<C>(alloc: Global, goal: &Goal, front: u64) -> Result<Machine<C>, Want>
 fn moves<B: Base, R: Wait, G: Gate>(
     base: &mut B,
     machine: &mut Machine<B::Cursor>,
-    host: &Host,
+    host: &Host<'_>,
     goal: &Goal,
     rt: &R,
     gate: &G,

@@ -3,7 +3,7 @@
 use crate::run::Event;
 use crate::terms::Terms;
 use journal_base::Tally;
-use prolog_terms::Term;
+use prolog_terms::{Ops, Term};
 use std::alloc::Global;
 
 /// Whether the machine goes on with its goals, tries its newest alternative, or raises a ball.
@@ -25,11 +25,13 @@ pub(crate) struct Machine<C> {
     pub tally: Tally,
 }
 
-/// What a run stands on: its engine, the front at its beginning, and its budget of steps.
+/// What a run stands on: its engine, the front at its beginning, its budget of steps, and the operators under which its
+/// goals write.
 #[derive(Clone, Copy)]
-pub(crate) struct Host {
+pub(crate) struct Host<'a> {
     pub alloc: Global,
     pub engine: u32,
     pub start: u64,
     pub budget: u64,
+    pub ops: &'a Ops,
 }

@@ -1,4 +1,5 @@
 use Rattle.std.proofs.Common.{◌≡◌, ◌<◌, sym, ◌∙◌, subst, [], ◌∷◌, List, length, get_or}
+use Rattle.prolog_terms.specs.Operators.{Table}
 use Rattle.journal_base.specs.Plain.{Plain}
 use Rattle.prolog_session.specs.declared.kept.TextGoal.{TextGoal}
 use Rattle.prolog_session.specs.Load.{a_goal, Loads}
@@ -20,8 +21,9 @@ loop-goal-preserved g c =
     let item = c.goal-item.result in
     let low = subst (λ (xs : List TextGoal). i < length xs) c.items-goal-items.ensures c.loop-goal-test.true in
     let is = subst (λ (xs : List TextGoal). item ≡ get_or xs i item) c.items-goal-items.ensures c.goal-item.is in
-    let loads = subst (λ (b : Plain). Loads (sizes_of b) c.args.steps (loaded_in b c.loop-goal.runs) (a_goal item ∷ []) (loaded_in b c.run_in_load.new.runs)) c.loop-goal.invariant.0 c.in_ok-base.ensures.run in (
+    let under = subst (λ (o : Table). Loads (sizes_of c.loop-goal.base) c.args.steps (loaded_in c.loop-goal.base c.loop-goal.runs) (a_goal o item ∷ []) (loaded_in c.loop-goal.base c.run_in_load.new.runs)) c.loop-goal.invariant.2 c.in_ok-base.ensures.run in
+    let loads = subst (λ (b : Plain). Loads (sizes_of b) c.args.steps (loaded_in b c.loop-goal.runs) (a_goal c.args.load.ops item ∷ []) (loaded_in b c.run_in_load.new.runs)) c.loop-goal.invariant.0 under in (
       c.in_ok-base.ensures.base ∙ c.loop-goal.invariant.0,
-      kept_step (sizes_of c.args.load.base) c.args.steps i c.args.load.kept item _ _ _ low is c.loop-goal.invariant.1 loads,
+      kept_step c.args.load.ops (sizes_of c.args.load.base) c.args.steps i c.args.load.kept item _ _ _ low is c.loop-goal.invariant.1 loads,
       c.in_ok-base.ensures.ops ∙ c.loop-goal.invariant.2,
     )

@@ -5,5 +5,5 @@ use Rattle.prolog_session.proofs.load.run_kept.Given as goal
 
 abbrev pub invariant-loop-goal : goal.invariant-loop-goal
 invariant-loop-goal g l = (l.base ≡ l.fn.load.base)
-    × Loads (sizes_of l.fn.load.base) l.fn.steps (loaded_in l.fn.load.base l.fn.load.runs) (goals (take l.goal-index l.fn.load.kept)) (loaded_in l.fn.load.base l.runs)
+    × Loads (sizes_of l.fn.load.base) l.fn.steps (loaded_in l.fn.load.base l.fn.load.runs) (goals l.fn.load.ops (take l.goal-index l.fn.load.kept)) (loaded_in l.fn.load.base l.runs)
     × (l.ops ≡ l.fn.load.ops)

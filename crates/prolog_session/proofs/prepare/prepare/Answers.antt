@@ -1,5 +1,7 @@
-use Rattle.std.proofs.Common.{sym, ap, ◌∙◌}
+use Rattle.std.proofs.Common.{sym, ap, ◌∙◌, subst}
+use Rattle.prolog_terms.specs.Operators.{Table}
 use Rattle.journal_base.specs.Plain.{Plain}
+use Rattle.prolog_session.specs.Runs.{AreRunsBehind}
 use Rattle.prolog_session.proofs.Under.{no_refusal, refused_under, ran_under}
 use Rattle.prolog_session.proofs.prepare.prepare.Goals as goal
 
@@ -14,4 +16,5 @@ returns-clause-prepares g c =
     let l = c.in_ok-load.ensures in
     let r = c.in_ok-ran.ensures in
     ran_under _ _ _ _ _ _ _ _ _ _ _ _ _ c.in-Whole.ensures.reads c.deref.ensures.value r.journal (ap (λ (b : Plain). b.entries) l.base) l.runs (r.operators ∙ l.operators) l.refused
-    (no_refusal _ c.in_default.not-Some) (sym c.in_ok-command.ensures.command ∙ c.in-Some.is) r.runs
+    (no_refusal _ c.in_default.not-Some) (sym c.in_ok-command.ensures.command ∙ c.in-Some.is)
+    (subst (λ (o : Table). AreRunsBehind o c.in_ok-load.load.runs c.in-Some.command c.in_ok-load.load.base.entries c.in_ok-ran.ran.runs) (sym r.operators) r.runs)

@@ -19,4 +19,4 @@ returns-in-Test c =
 pub returns-in_default : goal.returns-in_default
 returns-in_default c =
     let s = c.args.store.now in let texts = c.args.names.now in
-    record { answer = subst (λ (m : Meaning). IsAnswer texts s s m (gives.Holds false)) (sym (one-other c.args.what s.variables (term_of texts s c.args.only) c.in_default.not-Test)) (refl, refl) }
+    record { answer = subst (λ (m : Meaning). IsAnswer texts s s m (gives.Holds false)) (sym (one-other c.args.what s.variables (term_of texts s c.args.only) c.in_default.not-Test c.in_default.not-Write c.in_default.not-PutChar)) (refl, refl) }

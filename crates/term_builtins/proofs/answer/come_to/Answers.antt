@@ -8,7 +8,7 @@ use Rattle.term_builtins.specs.Meanings.{Meaning, meaning}
 use Rattle.term_builtins.specs.Answers.{IsAnswer}
 use Rattle.term_builtins.proofs.Grown.{further-itself}
 use Rattle.term_builtins.proofs.Listed.{two-cells}
-use Rattle.term_builtins.proofs.Called.{none-others, many-others, other-count, one-cell, three-cells}
+use Rattle.term_builtins.proofs.Called.{no_cells, many-others, other-count, one-cell, three-cells}
 use Rattle.term_builtins.proofs.answer.come_to.Goals as goal
 
 same-bindings : {T E : Type 0} (r : Result T E) (P : Type 0) → P → OnOk r P
@@ -18,11 +18,14 @@ same-bindings (Err e) P h = tt
 pub returns-in-empty-clause-further : goal.returns-in-empty-clause-further
 returns-in-empty-clause-further c = further-itself c.args.store.now c.args.names.now c.requires.named
 
+pub returns-in-empty-clause-bindings : goal.returns-in-empty-clause-bindings
+returns-in-empty-clause-bindings c = same-bindings c.answer_none.result _ refl
+
 pub returns-in-empty-clause-answer : goal.returns-in-empty-clause-answer
 returns-in-empty-clause-answer c =
     let s = c.args.store.now in let texts = c.args.names.now in
-    subst (λ (m : Meaning). IsAnswer texts s s m (gives.Holds false))
-    (sym (other-count c.args.what s.variables (trees_of (term_of texts s) c.args.args.now) (none-others (term_of texts s) c.args.args.now c.in-empty.len_below))) (refl, refl)
+    subst (λ (cs : List Cell). IfOk c.answer_none.result (IsAnswer texts s s (meaning c.args.what s.variables (trees_of (term_of texts s) cs))))
+    (sym (no_cells c.args.args.now c.in-empty.len_below)) c.answer_none.ensures.answer
 
 pub returns-in-len1-clause-further : goal.returns-in-len1-clause-further
 returns-in-len1-clause-further c = further-itself c.args.store.now c.args.names.now c.requires.named

@@ -9,7 +9,7 @@ use Rattle.term_builtins.specs.Meanings.{meaning}
 use Rattle.term_builtins.specs.Table.{builtins, indicator}
 use Rattle.term_builtins.specs.Answers.{IsAnswer, row_at}
 use Rattle.term_builtins.proofs.Grown.{further-further}
-use Rattle.term_builtins.proofs.Done.{undone, further-bound, answer-cells, done-true, done-false, done-raises, done-one, done-apart}
+use Rattle.term_builtins.proofs.Done.{undone, further-bound, answer-cells, done-true, done-false, done-writes, done-puts, done-raises, done-one, done-apart}
 use Rattle.term_builtins.proofs.run.try_run.Goals as goal
 use Rattle.term_builtins.proofs.run.try_run.Goals.{In_ok-come_to, In-Equates, After-unify}
 
@@ -83,3 +83,17 @@ returns-in_ok-ball-in-Raises-clause-done c =
     (subst (λ (a : Answer). IsAnswer c.come_to.new.names c.args.store.now c.come_to.new.store (meaning (row_at builtins c.args.row).what c.args.store.now.variables (trees_of (term_of c.come_to.new.names c.args.store.now) c.args.args.now)) a)
     c.in-Raises.is (answered (goal.at.returns-in_ok-ball-in-Raises-clause-done c).In_ok-come_to))
     c.in_ok-ball-in-Raises.ensures c.in_ok-come_to.ensures.bindings
+
+pub returns-in-Writes-clause-done : goal.returns-in-Writes-clause-done
+returns-in-Writes-clause-done c =
+    done-writes c.come_to.new.names c.args.store.now (indicator (row_at builtins c.args.row)) c.come_to.new.store _ c.in-Writes.style c.in-Writes.term
+    (subst (λ (a : Answer). IsAnswer c.come_to.new.names c.args.store.now c.come_to.new.store (meaning (row_at builtins c.args.row).what c.args.store.now.variables (trees_of (term_of c.come_to.new.names c.args.store.now) c.args.args.now)) a)
+    c.in-Writes.is (answered (goal.at.returns-in-Writes-clause-done c).In_ok-come_to))
+    c.in_ok-come_to.ensures.bindings
+
+pub returns-in-Puts-clause-done : goal.returns-in-Puts-clause-done
+returns-in-Puts-clause-done c =
+    done-puts c.come_to.new.names c.args.store.now (indicator (row_at builtins c.args.row)) c.come_to.new.store _ c.in-Puts.bytes
+    (subst (λ (a : Answer). IsAnswer c.come_to.new.names c.args.store.now c.come_to.new.store (meaning (row_at builtins c.args.row).what c.args.store.now.variables (trees_of (term_of c.come_to.new.names c.args.store.now) c.args.args.now)) a)
+    c.in-Puts.is (answered (goal.at.returns-in-Puts-clause-done c).In_ok-come_to))
+    c.in_ok-come_to.ensures.bindings

@@ -59,14 +59,14 @@ returns-in_ok-construct-in_default g c =
     record {
       seen = looks_refl _ c.requires.ready.sound;
       becomes = g.met.B.Base.becomes_itself _;
-      kept = acts_kept (performing (setting c.args.host.now m []) t c.args.cut d) mid n (acts (setting c.args.host.now m []) t) (g.B.Base.serves c.args.base.now) g.B.Base.group (g.B.Base.out c.args.base.now) c.requires.ready.kept;
+      kept = acts_kept (performing (setting c.args.host.now m []) t c.args.cut d) mid n (acts (setting c.args.host.now m []) t refl) (g.B.Base.serves c.args.base.now) g.B.Base.group (g.B.Base.out c.args.base.now) c.requires.ready.kept;
       left = left_through c.args.host.now.budget (g.B.Base.view c.args.base.now).seen m mid n refl
-          (acts_left (performing (setting c.args.host.now m []) t c.args.cut d) mid n (acts (setting c.args.host.now m []) t) c.args.host.now.budget (g.B.Base.view c.args.base.now).seen
+          (acts_left (performing (setting c.args.host.now m []) t c.args.cut d) mid n (acts (setting c.args.host.now m []) t refl) c.args.host.now.budget (g.B.Base.view c.args.base.now).seen
           (held_step c.args.host.now.budget (g.B.Base.view c.args.base.now).seen m.steps m.front (length (calls m)) m.tally c.requires.ready.held c.if-machine-host.false));
       moves = λ j b.
           let x = setting c.args.host.now m j in
           performed g.B.Base.rest g.B.Base.may_visit g.B.Base.looked_at g.B.Base.ahead _ x m t c.args.cut d c.requires.control.is (takes_step (built m.terms) c.args.control c.requires.simple) j n c.if-machine-host.false
-          (acts_goes (performing x t c.args.cut d) mid n (acts x t) g.B.Base.rest g.B.Base.may_visit g.B.Base.looked_at g.B.Base.ahead _ j (c.requires.ready.each j b));
+          (acts_goes (performing x t c.args.cut d) mid n (acts x t refl) g.B.Base.rest g.B.Base.may_visit g.B.Base.looked_at g.B.Base.ahead _ j (c.requires.ready.each j b));
     }
 
 pub returns-in-Halt : goal.returns-in-Halt

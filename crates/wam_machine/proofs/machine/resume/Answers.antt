@@ -9,7 +9,7 @@ use Rattle.wam_machine.specs.declared.state.Mode.TheVariants.{Failing as IsFaili
 use Rattle.wam_machine.specs.declared.terms.Alternative.{Alternative}
 use Rattle.wam_machine.proofs.Acted.{acts-onwards}
 use Rattle.wam_machine.proofs.Begins.{looks_refl}
-use Rattle.wam_machine.proofs.Resumed.{resumes_call, resumes_acts, acts_still, acts_fails}
+use Rattle.wam_machine.proofs.Resumed.{resumes_call, resumes_acts, acts_still, acts_fails, counts_same}
 use Rattle.wam_machine.proofs.machine.resume.Goals as goal
 
 pub returns-in_err-push_next-in-Right-clause-seen : goal.returns-in_err-push_next-in-Right-clause-seen
@@ -67,3 +67,8 @@ returns-in-CatchMark-clause-resumed g c = λ j b.
     let turn = OfCatch (built m.terms c.in-CatchMark._catcher) (built m.terms c.in-CatchMark._recovery) in
     subst (λ (a : Alternative _). All (AreNamed g.B.Base.rest g.B.Base.looked_at j) (calls m ++ turn_calls (turn_now m.terms a)) → Resumes g.B.Base.rest g.B.Base.may_visit g.B.Base.looked_at g.B.Base.ahead j (turn_now m.terms a) m n) (sym c.in-CatchMark.is)
     (resumes_acts g.B.Base.rest g.B.Base.may_visit g.B.Base.looked_at g.B.Base.ahead j turn m n refl (acts_fails m c.requires.terms)) (c.requires.named j b)
+
+pub returns-in_ok-repeat-in-Again-clause-counts : goal.returns-in_ok-repeat-in-Again-clause-counts
+returns-in_ok-repeat-in-Again-clause-counts g c =
+    let e = c.in_ok-repeat-in-Again.ensures in
+    counts_same c.args.machine.now c.repeat.new.machine e.acts.terms e.acts.shown c.repeat.ensures.same

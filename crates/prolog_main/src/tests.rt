@@ -1632,6 +1632,108 @@ const OUTPUT: [Row; 22] = [
     ),
 ];
 
+// Goals that collect answers.
+const FOUND: [Row; 18] = [
+    (
+        "",
+        &["findall(X-Y, (X = 1 ; X = 2), L), copy_term(f(A,B,A), C)"],
+        0,
+        "% goal 1\nX = _1, Y = _2, L = [1-_3,2-_4], A = _5, B = _6, C = f(_7,_8,_7).\n",
+    ),
+    (
+        "",
+        &["findall(X, fail, L)"],
+        0,
+        "% goal 1\nX = _1, L = [].\n",
+    ),
+    (
+        "",
+        &["findall(X, (X = 1 ; X = 2), [A,B])"],
+        0,
+        "% goal 1\nX = _1, A = 1, B = 2.\n",
+    ),
+    (
+        "",
+        &["findall(X, (X = 1 ; X = 2), [A])"],
+        0,
+        "% goal 1\nfalse.\n",
+    ),
+    (
+        "p(1). p(2). p(3).\n",
+        &["findall(X, p(X), L)"],
+        0,
+        "% goal 1\nX = _1, L = [1,2,3].\n",
+    ),
+    (
+        "",
+        &["findall(Y-L, ((Y = 1 ; Y = 2), findall(X, (X = Y ; X = 3), L)), M)"],
+        0,
+        "% goal 1\nY = _1, L = _2, X = _3, M = [1-[1,3],2-[2,3]].\n",
+    ),
+    (
+        "",
+        &["findall(X, (X = 1, ! ; X = 2), L)"],
+        0,
+        "% goal 1\nX = _1, L = [1].\n",
+    ),
+    (
+        "",
+        &["(Z = 1 ; Z = 2), findall(X, !, L)"],
+        0,
+        "% goal 1\nZ = 1, X = _1, L = [_2] ;\nZ = 2, X = _1, L = [_2].\n",
+    ),
+    (
+        "",
+        &["findall(f(A,B), (A = C ; B = C), L)"],
+        0,
+        "% goal 1\nA = _1, B = _2, C = _3, L = [f(_4,_5),f(_6,_7)].\n",
+    ),
+    ("", &["findall(X, throw(b), L)"], 1, "% goal 1\nerror: b.\n"),
+    (
+        "",
+        &["catch(findall(X, (X = 1 ; throw(b)), L), B, true)"],
+        0,
+        "% goal 1\nX = _1, L = _2, B = b.\n",
+    ),
+    ("", &["\\+ findall(X, fail, [a])"], 0, "% goal 1\nX = _1.\n"),
+    (
+        "",
+        &["findall(X, 1, L)"],
+        1,
+        "% goal 1\nerror: error(type_error(callable,1),findall/3).\n",
+    ),
+    (
+        "",
+        &["findall(X, G, L)"],
+        1,
+        "% goal 1\nerror: error(instantiation_error,call/1).\n",
+    ),
+    (
+        "",
+        &["--steps", "5", "findall(X, (X = 1 ; X = 2), L)"],
+        0,
+        "% goal 1\nX = _1, L = [1,2].\n",
+    ),
+    (
+        "",
+        &["--steps", "4", "findall(X, (X = 1 ; X = 2), L)"],
+        7,
+        "% goal 1\nstopped after 4 steps.\n",
+    ),
+    (
+        "",
+        &["findall(X, (X = 1, write(X)), L)"],
+        0,
+        "% goal 1\n1\nX = _1, L = [1].\n",
+    ),
+    (
+        "",
+        &["findall(X, (X = 1 ; X = 2), L), (Y = a ; Y = b)"],
+        0,
+        "% goal 1\nX = _1, L = [1,2], Y = a ;\nX = _1, L = [1,2], Y = b.\n",
+    ),
+];
+
 // Values under the operators that there are from the start, worked out from the rules of the writer.
 const WRITTEN: [Row; 31] = [
     ("", &["X = 1 - (-1)"], 0, "% goal 1\nX = 1- -1.\n"),
@@ -1898,6 +2000,11 @@ fn answers_the_builtins(rt: HostRuntime) {
 #[test]
 fn answers_what_goals_write(rt: HostRuntime) {
     expect_rows(&rt, rt.alloc(), &OUTPUT);
+}
+
+#[test]
+fn answers_what_goals_find(rt: HostRuntime) {
+    expect_rows(&rt, rt.alloc(), &FOUND);
 }
 
 #[test]

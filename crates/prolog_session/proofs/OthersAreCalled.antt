@@ -9,7 +9,7 @@ use Rattle.prolog_terms.specs.Clauses.{is_named}
 use Rattle.prolog_terms.specs.Indicators.{indicator_of}
 use Rattle.prolog_terms.specs.declared.entry.Indicator.{Indicator}
 use Rattle.term_builtins.specs.Table.{Row, builtins, indicator, place_in, place_when}
-use Rattle.wam_machine.specs.Control.{Control, True, Fail, Cut, Repeat, Halt, Call, Once, Not, Throw, HaltWith, Both, If, Catch, User, plain, builtin_or_user, control_of, control_of_either, control_with_more}
+use Rattle.wam_machine.specs.Control.{Control, True, Fail, Cut, Repeat, Halt, Call, Once, Not, Throw, HaltWith, Both, If, Catch, Findall, User, plain, builtin_or_user, control_of, control_of_either, control_with_more}
 use Rattle.prolog_session.specs.Reserved.{is_reserved, control, of_terms, of_texts, of_numbers, of_clauses}
 
 abbrev at : List ℕ → ℕ → Indicator
@@ -38,9 +38,9 @@ two_names : (is_reserved (at (codes ",") 2) ≡ true) × (is_reserved (at (codes
 unfolding is_reserved control
 two_names = (refl, refl, refl, refl)
 
-three_names : (is_reserved (at (codes "catch") 3) ≡ true) × (is_reserved (at (codes "call") 3) ≡ true)
+three_names : (is_reserved (at (codes "catch") 3) ≡ true) × (is_reserved (at (codes "findall") 3) ≡ true) × (is_reserved (at (codes "call") 3) ≡ true)
 unfolding is_reserved control
-three_names = (refl, refl)
+three_names = (refl, refl, refl)
 
 more_names : (is_reserved (at (codes "call") 4) ≡ true) × (is_reserved (at (codes "call") 5) ≡ true) × (is_reserved (at (codes "call") 6) ≡ true) × (is_reserved (at (codes "call") 7) ≡ true) × (is_reserved (at (codes "call") 8) ≡ true)
 unfolding is_reserved control
@@ -92,8 +92,8 @@ fifth : (c1 c2 c3 c4 c5 : Control) (p q r s : Bool) → p ≡ false → q ≡ fa
     → (if p then c1 else if q then c2 else if r then c3 else if s then c4 else c5) ≡ c5
 fifth c1 c2 c3 c4 c5 p q r s a b c d = rw (a, b, c, d) refl
 
-third : (c1 c2 c3 : Control) (p q : Bool) → p ≡ false → q ≡ false → (if p then c1 else if q then c2 else c3) ≡ c3
-third c1 c2 c3 p q a b = rw (a, b) refl
+fourth : (c1 c2 c3 c4 : Control) (p q r : Bool) → p ≡ false → q ≡ false → r ≡ false → (if p then c1 else if q then c2 else if r then c3 else c4) ≡ c4
+fourth c1 c2 c3 c4 p q r a b c = rw (a, b, c) refl
 
 atom_called : (a : List ℕ) → is_reserved (at a 0) ≡ false → control_of (atom a) ≡ Some (User (at a 0))
 atom_called a h =
@@ -123,8 +123,8 @@ three_called : (f : List ℕ) (a b c : Tree) → is_reserved (at f 3) ≡ false 
 three_called f a b c h =
     let n = three_names in
     ap (λ (d : Control). Some d)
-    (third (Catch a b c) (Call a (more b (more c none))) (plain f (more a (more b (more c none)))) (is_named (codes "catch") f) (is_named (codes "call") f)
-    (no_name _ f 3 n.0 h) (no_name _ f 3 n.1 h)
+    (fourth (Catch a b c) (Findall a b c) (Call a (more b (more c none))) (plain f (more a (more b (more c none)))) (is_named (codes "catch") f) (is_named (codes "findall") f) (is_named (codes "call") f)
+    (no_name _ f 3 n.0 h) (no_name _ f 3 n.1 h) (no_name _ f 3 n.2 h)
     ∙ plain_called f (more a (more b (more c none))) h)
 
 not-below : (n m : ℕ) → m ≤ n → nat_lt n m ≡ false

@@ -17,6 +17,7 @@ passed tree (waits.Do c h) rest other = refl
 passed tree (waits.ConditionEnd h) rest other = refl
 passed tree (waits.NotEnd h) rest other = refl
 passed tree (waits.CatchEnd h) rest other = absurd (other h refl)
+passed tree (waits.FindallEnd c h) rest other = refl
 
 abbrev pub catch_from : {C : Type 0} → Terms C → ℕ → Option ℕ
 catch_from t n = active_catch (goals_at (term_of t.names t.store) t.frames.items n)

@@ -9,7 +9,7 @@ use Rattle.journal_base.specs.Journal.{Journal}
 use Rattle.journal_base.specs.View.{Out}
 use Rattle.wam_machine.specs.Machine as spec
 use Rattle.wam_machine.specs.Machine.{State, Setting, Outcome, Goes, Ends, Look, height, cut_to, cut_back, leaving_catch, over, active_catch, caught, raising, reached, reaching, halting, move}
-use Rattle.wam_machine.specs.Terms.{Turn, OfCall, OfRight, OfRepeat, OfNot, OfCatch, AreTerms, HasCatch, is_catch, said, calls_in}
+use Rattle.wam_machine.specs.Terms.{Turn, OfCall, OfRight, OfRepeat, OfNot, OfCatch, OfFindall, AreTerms, HasCatch, is_catch, said, calls_in}
 use Rattle.wam_machine.specs.View.{alternative_of, choice_of, stack_of, state_of, mode_of, calls, Acts, AreKept, GoesOn, ComesToEnd, Does, IsHeld, IsHeldIn, IsLeft}
 use Rattle.wam_machine.specs.declared.run.RunEnd.{RunEnd}
 use Rattle.wam_machine.specs.declared.run.RunEnd.TheVariants.{Ball}
@@ -44,6 +44,7 @@ reach_drops rest at j ball s below c (OfRight g h) e = refl
 reach_drops rest at j ball s below c OfRepeat e = refl
 reach_drops rest at j ball s below c OfNot e = refl
 reach_drops rest at j ball s below c (OfCatch w r) e = let t : true ≡ false = e in absurd cc
+reach_drops rest at j ball s below c (OfFindall l f) e = refl
 
 lower : (m n : ℕ) → m < n → nat_lt m n ≡ true
 lower m n h = grind (arith, nat_tests)

@@ -7,7 +7,7 @@ use Rattle.journal_base.specs.Calls.{Goal}
 use Rattle.journal_base.specs.View.{Out, opened}
 use Rattle.wam_machine.specs.Cursors.{goal_of}
 use Rattle.wam_machine.specs.Choices.{IsCallOf}
-use Rattle.wam_machine.specs.Terms.{Left, Turn, OfCall, OfRight, OfRepeat, OfNot, OfCatch, Saved, call_in, calls_in}
+use Rattle.wam_machine.specs.Terms.{Left, Turn, OfCall, OfRight, OfRepeat, OfNot, OfCatch, OfFindall, Saved, call_in, calls_in}
 use Rattle.wam_machine.specs.View.{AreKept}
 use Rattle.wam_machine.specs.declared.terms.Call.{Call}
 use Rattle.wam_machine.proofs.Acted.{calls-push, calls-beside}
@@ -19,6 +19,7 @@ dropped-call (OfRight g h) call e = absurd e
 dropped-call OfRepeat call e = absurd e
 dropped-call OfNot call e = absurd e
 dropped-call (OfCatch c r) call e = absurd e
+dropped-call (OfFindall l f) call e = absurd e
 
 pub dropped-none : {C : Type 0} (t : Turn C) → IsCallOf t None → call_in t ≡ None
 dropped-none (OfCall left) e = absurd e
@@ -26,6 +27,7 @@ dropped-none (OfRight g h) e = refl
 dropped-none OfRepeat e = refl
 dropped-none OfNot e = refl
 dropped-none (OfCatch c r) e = refl
+dropped-none (OfFindall l f) e = refl
 
 -- the calls of a stack with one more call
 pub calls-call : {C : Type 0} (ss : List (Saved C)) (s : Saved C) (left : Left C) → call_in s.turn ≡ Some left → calls_in (ss ++ s ∷ []) ≡ calls_in ss ++ left ∷ []

@@ -12,7 +12,7 @@ use Rattle.term_unifier.specs.Unifier.{unifier}
 use Rattle.journal_base.specs.Keys.{keys, could_match}
 use Rattle.wam_machine.specs.Control.{plain}
 use Rattle.wam_machine.specs.Machine.{calling_builtin, Setting, State, Report, Outcome, Goes, Ends, Unfit, Runs, ends, goes, move, beginning, Transcript}
-use Rattle.wam_machine.specs.Rows.{Gives, Alone, HasRows, catches, throws, halts, halts_with, catch_three, throw_one, halt_one, a, a_cut, a_loop, a_rule, any_between, b, both, c, call, called, closed, copied_number, copies, cut, denied, equal, failure, is_free, is_one, is_two, list_of, mem, members, number, on, once, one, one_and_more, one_or_two, one_pair, opened, or, p, repeats, then, three_facts, trees, truth, uncallable, x}
+use Rattle.wam_machine.specs.Rows.{Gives, Alone, HasRows, catches, finds, findall_three, either_y, y, nil, two, throws, halts, halts_with, catch_three, throw_one, halt_one, a, a_cut, a_loop, a_rule, any_between, b, both, c, call, called, closed, copied_number, copies, cut, denied, equal, failure, is_free, is_one, is_two, list_of, mem, members, number, on, once, one, one_and_more, one_or_two, one_pair, opened, or, p, repeats, then, three_facts, trees, truth, uncallable, x}
 
 -- what a run gives within so many moves
 abbrev run_within : ℕ → Setting → State → Option Report
@@ -431,6 +431,98 @@ row_catch_number : Alone (catches (throws (number 1)) x truth) (is_one ∷ []) 4
 unfolding unifier keys could_match error_tree fault_tree plain calling_builtin
 row_catch_number = gives 60 [] 100 (catches (throws (number 1)) x truth) (x ∷ []) [] (is_one ∷ []) 4 Exhausted refl
 
+row_found_none : Alone (finds y failure x) (closed (nil ∷ []) ∷ []) 2 Exhausted
+unfolding unifier keys could_match error_tree fault_tree plain calling_builtin
+row_found_none = gives 60 [] 100 (finds y failure x) (x ∷ []) [] (closed (nil ∷ []) ∷ []) 2 Exhausted refl
+
+row_found_two : Alone (finds y either_y x) (closed ((list_of (number 1 ∷ number 2 ∷ [])) ∷ []) ∷ []) 5 Exhausted
+unfolding unifier keys could_match error_tree fault_tree plain calling_builtin
+row_found_two = gives 60 [] 100 (finds y either_y x) (x ∷ []) [] (closed ((list_of (number 1 ∷ number 2 ∷ [])) ∷ []) ∷ []) 5 Exhausted refl
+
+row_found_two_exactly : Gives [] 5 (finds y either_y x) (x ∷ []) [] (closed ((list_of (number 1 ∷ number 2 ∷ [])) ∷ []) ∷ []) 5 Exhausted
+unfolding unifier keys could_match error_tree fault_tree plain calling_builtin
+row_found_two_exactly = gives 60 [] 5 (finds y either_y x) (x ∷ []) [] (closed ((list_of (number 1 ∷ number 2 ∷ [])) ∷ []) ∷ []) 5 Exhausted refl
+
+row_found_two_spent : Gives [] 4 (finds y either_y x) (x ∷ []) [] [] 4 (Spent 4)
+unfolding unifier keys could_match error_tree fault_tree plain calling_builtin
+row_found_two_spent = gives 60 [] 4 (finds y either_y x) (x ∷ []) [] [] 4 (Spent 4) refl
+
+row_found_nested : Alone (finds y (finds (variable 2) (or (equal (variable 2) (number 1)) (equal (variable 2) (number 2))) y) x) (closed (list_of ((list_of (number 1 ∷ number 2 ∷ [])) ∷ []) ∷ []) ∷ []) 6 Exhausted
+unfolding unifier keys could_match error_tree fault_tree plain calling_builtin
+row_found_nested = gives 60 [] 100 (finds y (finds (variable 2) (or (equal (variable 2) (number 1)) (equal (variable 2) (number 2))) y) x) (x ∷ []) [] (closed (list_of ((list_of (number 1 ∷ number 2 ∷ [])) ∷ []) ∷ []) ∷ []) 6 Exhausted refl
+
+row_found_free : Alone (finds y (or truth truth) x) (closed (list_of (variable 0 ∷ variable 1 ∷ []) ∷ []) ∷ []) 5 Exhausted
+unfolding unifier keys could_match error_tree fault_tree plain calling_builtin
+row_found_free = gives 60 [] 100 (finds y (or truth truth) x) (x ∷ []) [] (closed (list_of (variable 0 ∷ variable 1 ∷ []) ∷ []) ∷ []) 5 Exhausted refl
+
+row_found_free_twice : Alone (finds (two (codes "f") y y) (or truth truth) x) (closed (list_of (two (codes "f") (variable 0) (variable 0) ∷ two (codes "f") (variable 1) (variable 1) ∷ []) ∷ []) ∷ []) 5 Exhausted
+unfolding unifier keys could_match error_tree fault_tree plain calling_builtin
+row_found_free_twice = gives 60 [] 100 (finds (two (codes "f") y y) (or truth truth) x) (x ∷ []) [] (closed (list_of (two (codes "f") (variable 0) (variable 0) ∷ two (codes "f") (variable 1) (variable 1) ∷ []) ∷ []) ∷ []) 5 Exhausted refl
+
+row_found_copy : Gives [] 100 (both (finds y truth x) (equal y a)) (x ∷ y ∷ []) [] (closed (list_of (variable 0 ∷ []) ∷ a ∷ []) ∷ []) 3 Exhausted
+unfolding unifier keys could_match error_tree fault_tree plain calling_builtin
+row_found_copy = gives 60 [] 100 (both (finds y truth x) (equal y a)) (x ∷ y ∷ []) [] (closed (list_of (variable 0 ∷ []) ∷ a ∷ []) ∷ []) 3 Exhausted refl
+
+row_found_undone : Gives [] 100 (finds x (equal x (number 1)) y) (x ∷ y ∷ []) [] (closed (variable 0 ∷ list_of (number 1 ∷ []) ∷ []) ∷ []) 2 Exhausted
+unfolding unifier keys could_match error_tree fault_tree plain calling_builtin
+row_found_undone = gives 60 [] 100 (finds x (equal x (number 1)) y) (x ∷ y ∷ []) [] (closed (variable 0 ∷ list_of (number 1 ∷ []) ∷ []) ∷ []) 2 Exhausted refl
+
+row_found_in_denied : Alone (denied (finds y failure (list_of (a ∷ [])))) (is_free ∷ []) 3 Exhausted
+unfolding unifier keys could_match error_tree fault_tree plain calling_builtin
+row_found_in_denied = gives 60 [] 100 (denied (finds y failure (list_of (a ∷ [])))) (x ∷ []) [] (is_free ∷ []) 3 Exhausted refl
+
+row_found_denied : Alone (denied (finds y failure nil)) [] 3 Exhausted
+unfolding unifier keys could_match error_tree fault_tree plain calling_builtin
+row_found_denied = gives 60 [] 100 (denied (finds y failure nil)) (x ∷ []) [] [] 3 Exhausted refl
+
+row_denied_in_found : Alone (finds y (denied either_y) x) (closed (nil ∷ []) ∷ []) 4 Exhausted
+unfolding unifier keys could_match error_tree fault_tree plain calling_builtin
+row_denied_in_found = gives 60 [] 100 (finds y (denied either_y) x) (x ∷ []) [] (closed (nil ∷ []) ∷ []) 4 Exhausted refl
+
+row_found_ball : Alone (finds y (or (equal y (number 1)) (throws a)) x) [] 5 (Ball a)
+unfolding unifier keys could_match error_tree fault_tree plain calling_builtin
+row_found_ball = gives 60 [] 100 (finds y (or (equal y (number 1)) (throws a)) x) (x ∷ []) [] [] 5 (Ball a) refl
+
+row_found_caught : Alone (catches (finds y (or (equal y (number 1)) (throws a)) x) (variable 2) truth) (is_free ∷ []) 8 Exhausted
+unfolding unifier keys could_match error_tree fault_tree plain calling_builtin
+row_found_caught = gives 60 [] 100 (catches (finds y (or (equal y (number 1)) (throws a)) x) (variable 2) truth) (x ∷ []) [] (is_free ∷ []) 8 Exhausted refl
+
+row_caught_in_found : Alone (finds y (catches (or (equal y (number 1)) (throws a)) a (equal y (number 2))) x) (closed ((list_of (number 1 ∷ number 2 ∷ [])) ∷ []) ∷ []) 8 Exhausted
+unfolding unifier keys could_match error_tree fault_tree plain calling_builtin
+row_caught_in_found = gives 60 [] 100 (finds y (catches (or (equal y (number 1)) (throws a)) a (equal y (number 2))) x) (x ∷ []) [] (closed ((list_of (number 1 ∷ number 2 ∷ [])) ∷ []) ∷ []) 8 Exhausted refl
+
+row_cut_in_found : Alone (finds y (both either_y cut) x) (closed (list_of (number 1 ∷ []) ∷ []) ∷ []) 4 Exhausted
+unfolding unifier keys could_match error_tree fault_tree plain calling_builtin
+row_cut_in_found = gives 60 [] 100 (finds y (both either_y cut) x) (x ∷ []) [] (closed (list_of (number 1 ∷ []) ∷ []) ∷ []) 4 Exhausted refl
+
+row_cut_found : Alone (both one_or_two (finds y (or (both cut failure) truth) nil)) (one_and_more ∷ is_two ∷ []) 12 Exhausted
+unfolding unifier keys could_match error_tree fault_tree plain calling_builtin
+row_cut_found = gives 60 [] 100 (both one_or_two (finds y (or (both cut failure) truth) nil)) (x ∷ []) [] (one_and_more ∷ is_two ∷ []) 12 Exhausted refl
+
+row_found_closed : Alone (both (finds y either_y (variable 2)) one_or_two) (one_and_more ∷ is_two ∷ []) 9 Exhausted
+unfolding unifier keys could_match error_tree fault_tree plain calling_builtin
+row_found_closed = gives 60 [] 100 (both (finds y either_y (variable 2)) one_or_two) (x ∷ []) [] (one_and_more ∷ is_two ∷ []) 9 Exhausted refl
+
+row_found_bound : Alone (finds y either_y (list_of (number 1 ∷ x ∷ []))) (is_two ∷ []) 5 Exhausted
+unfolding unifier keys could_match error_tree fault_tree plain calling_builtin
+row_found_bound = gives 60 [] 100 (finds y either_y (list_of (number 1 ∷ x ∷ []))) (x ∷ []) [] (is_two ∷ []) 5 Exhausted refl
+
+row_found_other_length : Alone (finds y either_y (list_of (x ∷ []))) [] 5 Exhausted
+unfolding unifier keys could_match error_tree fault_tree plain calling_builtin
+row_found_other_length = gives 60 [] 100 (finds y either_y (list_of (x ∷ []))) (x ∷ []) [] [] 5 Exhausted refl
+
+row_found_no_list : Alone (finds y truth a) [] 2 Exhausted
+unfolding unifier keys could_match error_tree fault_tree plain calling_builtin
+row_found_no_list = gives 60 [] 100 (finds y truth a) (x ∷ []) [] [] 2 Exhausted refl
+
+row_found_integer : Alone (finds y (number 1) x) [] 1 (uncallable (number 1) findall_three)
+unfolding unifier keys could_match error_tree fault_tree plain calling_builtin
+row_found_integer = gives 60 [] 100 (finds y (number 1) x) (x ∷ []) [] [] 1 (uncallable (number 1) findall_three) refl
+
+row_found_unbound : Alone (finds y (variable 2) x) [] 2 (Ball (fault_tree Instantiation (called 1)))
+unfolding unifier keys could_match error_tree fault_tree plain calling_builtin
+row_found_unbound = gives 60 [] 100 (finds y (variable 2) x) (x ∷ []) [] [] 2 (Ball (fault_tree Instantiation (called 1))) refl
+
 pub has_rows : HasRows
 has_rows = record {
   true_goal = row_true_goal;
@@ -528,4 +620,27 @@ has_rows = record {
   catch_out_of_once = row_catch_out_of_once;
   catch_goes_on = row_catch_goes_on;
   catch_number = row_catch_number;
+  found_none = row_found_none;
+  found_two = row_found_two;
+  found_two_exactly = row_found_two_exactly;
+  found_two_spent = row_found_two_spent;
+  found_nested = row_found_nested;
+  found_free = row_found_free;
+  found_free_twice = row_found_free_twice;
+  found_copy = row_found_copy;
+  found_undone = row_found_undone;
+  found_in_denied = row_found_in_denied;
+  found_denied = row_found_denied;
+  denied_in_found = row_denied_in_found;
+  found_ball = row_found_ball;
+  found_caught = row_found_caught;
+  caught_in_found = row_caught_in_found;
+  cut_in_found = row_cut_in_found;
+  cut_found = row_cut_found;
+  found_closed = row_found_closed;
+  found_bound = row_found_bound;
+  found_other_length = row_found_other_length;
+  found_no_list = row_found_no_list;
+  found_integer = row_found_integer;
+  found_unbound = row_found_unbound;
 }

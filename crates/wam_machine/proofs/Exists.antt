@@ -18,9 +18,9 @@ use Rattle.term_unifier.specs.Unifier.{unifier}
 use Rattle.wam_machine.specs.declared.run.RunEnd.{RunEnd}
 use Rattle.wam_machine.specs.declared.run.RunEnd.TheVariants.{Exhausted, Ball, Spent, Halted}
 use Rattle.prolog_terms.specs.Clauses.{body_of, call_term}
-use Rattle.term_builtins.specs.Meanings.{Meaning, Holds, Equates, Writes, Puts, Raises}
-use Rattle.wam_machine.specs.Control.{Control, True, Fail, Cut, Repeat, Both, Either, IfElse, If, Not, Call, Once, Catch, Throw, Halt, HaltWith, Builtin, User, control_of, with_added}
-use Rattle.wam_machine.specs.Machine.{Next, Do, ConditionEnd, NotEnd, CatchEnd, Alternative, Clauses, Right, Again, NotMark, CatchMark, Choice, Mode, Going, Failing, Raising, State, Setting, Report, Outcome, Goes, Ends, Unfit, made_all, over, stepping, onwards, pushed, height, cut_to, not_callable, answer, next_under, solving, numbering, body_from, leaving, trying, candidate_clauses, looked, called, calling, call_with, raises, running, calling_added, denying, catching, throwing, halting, halt_with, not_integer, cut_back, active_catch, recovering, reaching, reached, caught, repeating, performing, doing, goal_move, going, back_to, taken, failing, raising, move, beginning, Runs, ends, goes, Misfits, unfit, later, Transcript, EachGoalRuns, CanBeDone, IsWellMade, HasBodies, coming_to, calling_builtin}
+use Rattle.term_builtins.specs.Meanings.{Meaning, Holds, Equates, Writes, Puts, Raises, list_tree}
+use Rattle.wam_machine.specs.Control.{Control, True, Fail, Cut, Repeat, Both, Either, IfElse, If, Not, Call, Once, Catch, Findall, Throw, Halt, HaltWith, Builtin, User, control_of, with_added}
+use Rattle.wam_machine.specs.Machine.{Next, Do, ConditionEnd, NotEnd, CatchEnd, FindallEnd, Alternative, Clauses, Right, Again, NotMark, CatchMark, FindallMark, Choice, Mode, Going, Failing, Raising, State, Setting, Report, Outcome, Goes, Ends, Unfit, made_all, over, stepping, onwards, pushed, height, cut_to, not_callable, answer, next_under, solving, numbering, body_from, leaving, trying, candidate_clauses, looked, called, calling, call_with, raises, running, calling_added, denying, catching, gathering, gathered, new_copies, behind_copies, found_at, throwing, halting, halt_with, not_integer, cut_back, active_catch, recovering, reaching, reached, caught, repeating, performing, doing, goal_move, going, back_to, taken, failing, raising, move, beginning, Runs, ends, goes, Misfits, unfit, later, Transcript, EachGoalRuns, CanBeDone, IsWellMade, HasBodies, coming_to, calling_builtin}
 use Rattle.wam_machine.proofs.WellMade.{HasParts, parts, goes-makes, begins-well}
 use Rattle.wam_machine.proofs.Laws.{Within, move-within}
 use Rattle.wam_machine.proofs.Settles.{has_transcript}
@@ -94,6 +94,11 @@ catching-on : (goal catcher recovery : Tree) (s : State) (o : Option Tree) → O
 unfolding at
 catching-on goal catcher recovery s None = record { next = record s { mode = Raising (fault_tree (not_callable goal) (record { name = codes "catch"; arity = 3 })) }; goes_on = λ fs. refl; front_is = refl; steps_is = refl }
 catching-on goal catcher recovery s (Some b) = record { next = record (pushed (CatchMark catcher recovery) s) { goals = Do b (suc (height s)) ∷ CatchEnd (suc (height s)) ∷ s.goals }; goes_on = λ fs. refl; front_is = refl; steps_is = refl }
+
+gathering-on : (template goal list : Tree) (s : State) (o : Option Tree) → On s (λ fs. gathering template goal list (at s fs) o)
+unfolding at
+gathering-on template goal list s None = record { next = record s { mode = Raising (fault_tree (not_callable goal) (record { name = codes "findall"; arity = 3 })) }; goes_on = λ fs. refl; front_is = refl; steps_is = refl }
+gathering-on template goal list s (Some b) = record { next = record (pushed (FindallMark list []) s) { goals = Do b (suc (height s)) ∷ FindallEnd template (suc (height s)) ∷ s.goals }; goes_on = λ fs. refl; front_is = refl; steps_is = refl }
 
 throwing-on : (ball : Tree) (s : State) → On s (λ fs. throwing ball (at s fs))
 unfolding at
@@ -183,6 +188,7 @@ module _ (x : Setting) (made : made_all x ≡ true) where
   doing-kind goal cut s (Not g) le = stepped-on (length x.journal) s (performing x goal cut (Not g)) le (λ t. denying-on g t (body_of g))
   doing-kind goal cut s (Call g added) le = stepped-on (length x.journal) s (performing x goal cut (Call g added)) le (λ t. calling_added-on g added t)
   doing-kind goal cut s (Catch g c r) le = stepped-on (length x.journal) s (performing x goal cut (Catch g c r)) le (λ t. catching-on g c r t (body_of g))
+  doing-kind goal cut s (Findall t g l) le = stepped-on (length x.journal) s (performing x goal cut (Findall t g l)) le (λ u. gathering-on t g l u (body_of g))
   doing-kind goal cut s (Throw b) le = stepped-on (length x.journal) s (performing x goal cut (Throw b)) le (λ t. throwing-on b t)
   doing-kind goal cut s Halt le = stepped-over (length x.journal) s (Halted (pos 0)) (performing x goal cut Halt) (λ t. refl)
   doing-kind goal cut s (HaltWith n) le = halting-kind (length x.journal) n s le
@@ -203,11 +209,17 @@ module _ (x : Setting) (made : made_all x ≡ true) where
       moved (closes r h) = closes r h
   going-kind s (ConditionEnd h ∷ rest) d le = stays (record s { goals = rest; stack = cut_to h s.stack }) (λ fs. refl) le (omega arith)
   going-kind s (NotEnd h ∷ rest) d le = stays (record s { mode = Failing; goals = rest; stack = cut_to h s.stack }) (λ fs. refl) le (omega arith)
+  going-kind s (FindallEnd t h ∷ rest) d le = stays (record s { mode = Failing; goals = rest; stack = found_at h (numbered t) s.stack }) (λ fs. refl) le (omega arith)
   going-kind s (CatchEnd h ∷ rest) d le = go (height s == h)
     where
       go : (b : Bool) → Kind (length x.journal) x.budget s (λ fs. Goes (if b then cut_back (h - 1) (record s { goals = rest; fronts = fs }) else record s { goals = rest; fronts = fs }))
       go true = stays (record s { goals = rest; stack = cut_to (h - 1) s.stack }) (λ fs. refl) le (omega arith)
       go false = stays (record s { goals = rest }) (λ fs. refl) le (omega arith)
+
+  solving-kind : (s t : State) (o : Option (ℕ → Tree)) → t.front ≤ length x.journal → t.steps ≡ s.steps → Kind (length x.journal) x.budget s (λ fs. solving [] (at t fs) o)
+  unfolding at
+  solving-kind s t None le e = stays (record t { mode = Failing }) (λ fs. refl) le (omega arith)
+  solving-kind s t (Some m) le e = stays (record t { goals = map (next_under m) t.goals; bindings = λ v. substituted m (t.bindings v) }) (λ fs. refl) le (omega arith)
 
   taken-kind : (s : State) (a : Alternative) → s.front ≤ length x.journal → Kind (length x.journal) x.budget s (λ fs. taken x (at s fs) a)
   unfolding at
@@ -216,6 +228,7 @@ module _ (x : Setting) (made : made_all x ≡ true) where
   taken-kind s Again le = stepped-on (length x.journal) s repeating le (λ t. record { next = pushed Again t; goes_on = λ fs. refl; front_is = refl; steps_is = refl })
   taken-kind s NotMark le = stays s (λ fs. refl) le (omega arith)
   taken-kind s (CatchMark c r) le = stays (record s { mode = Failing }) (λ fs. refl) le (omega arith)
+  taken-kind s (FindallMark l f) le = solving-kind s (record s { fresh = behind_copies s.fresh f }) (unifier l (list_tree (new_copies s.fresh f))) le refl
 
   failing-kind : (s : State) (st : List Choice) → s.front ≤ length x.journal → Kind (length x.journal) x.budget s (λ fs. failing x (at s fs) st)
   unfolding at
@@ -241,6 +254,7 @@ module _ (x : Setting) (made : made_all x ≡ true) where
   reaching-kind s ball below c (Right goal cut) le = stays (record s { stack = below }) (λ fs. refl) le (omega arith)
   reaching-kind s ball below c Again le = stays (record s { stack = below }) (λ fs. refl) le (omega arith)
   reaching-kind s ball below c NotMark le = stays (record s { stack = below }) (λ fs. refl) le (omega arith)
+  reaching-kind s ball below c (FindallMark l f) le = stays (record s { stack = below }) (λ fs. refl) le (omega arith)
 
   reached-kind : (s : State) (ball : Tree) (st : List Choice) → s.front ≤ length x.journal → Kind (length x.journal) x.budget s (λ fs. reached x ball (at s fs) st)
   unfolding at

@@ -19,7 +19,7 @@ use Rattle.wam_machine.specs.Control as spec
 use Rattle.term_builtins.specs.Table.{Row, builtins, place_in, place_when, is_row}
 use Rattle.wam_machine.specs.Control.{control_of, control_of_either, plain, builtin_or_user}
 use Rattle.wam_machine.specs.declared.control.Control.{Control}
-use Rattle.wam_machine.specs.declared.control.Control.TheVariants.{True, Fail, Cut, Repeat, Both, Either, IfElse, If, Not, Call, Once, Catch, Throw, Halt, HaltWith, Builtin, User}
+use Rattle.wam_machine.specs.declared.control.Control.TheVariants.{True, Fail, Cut, Repeat, Both, Either, IfElse, If, Not, Call, Once, Catch, Findall, Throw, Halt, HaltWith, Builtin, User}
 use Rattle.wam_machine.specs.declared.terms.Terms.{Terms}
 use Rattle.wam_machine.proofs.SeenCells.{count_trees, text_read}
 use Rattle.wam_machine.proofs.SpineParts.{two-cells, two-trees}
@@ -81,16 +81,16 @@ two-plain f left right p q r s c g = record {
   among = λ n sh k. g.among n sh k;
 }
 
-third : (c1 c2 c3 : spec.Control) (p q : Bool) → p ≡ false → q ≡ false → (if p then c1 else if q then c2 else c3) ≡ c3
-third c1 c2 c3 p q a b = rw (a, b) refl
+fourth : (c1 c2 c3 c4 : spec.Control) (p q r : Bool) → p ≡ false → q ≡ false → r ≡ false → (if p then c1 else if q then c2 else if r then c3 else c4) ≡ c4
+fourth c1 c2 c3 c4 p q r a b d = rw (a, b, d) refl
 
-pub three-plain : (f : List ℕ) (first second last : Cell) → is_named (codes "catch") f ≡ false → is_named (codes "call") f ≡ false
+pub three-plain : (f : List ℕ) (first second last : Cell) → is_named (codes "catch") f ≡ false → is_named (codes "findall") f ≡ false → is_named (codes "call") f ≡ false
     → (c : Control) → IsPlain f (first ∷ second ∷ last ∷ []) c → IsFound (first ∷ second ∷ last ∷ []) (λ tree. compound f (more (tree first) (more (tree second) (more (tree last) none)))) c
-three-plain f first second last p q c g = record {
+three-plain f first second last p q r c g = record {
   is = λ tree.
       ap (λ (d : spec.Control). Some d)
-      (third (spec.Catch (tree first) (tree second) (tree last)) (spec.Call (tree first) (more (tree second) (more (tree last) none)))
-      (plain f (more (tree first) (more (tree second) (more (tree last) none)))) (is_named (codes "catch") f) (is_named (codes "call") f) p q ∙ g.is tree);
+      (fourth (spec.Catch (tree first) (tree second) (tree last)) (spec.Findall (tree first) (tree second) (tree last)) (spec.Call (tree first) (more (tree second) (more (tree last) none)))
+      (plain f (more (tree first) (more (tree second) (more (tree last) none)))) (is_named (codes "catch") f) (is_named (codes "findall") f) (is_named (codes "call") f) p q r ∙ g.is tree);
   among = λ n sh k. g.among n sh k;
 }
 
@@ -276,6 +276,7 @@ module _ {C : Type 0} (t : Terms C) where
   found-goals (Call g added) h k = tt
   found-goals (Once g) h k = tt
   found-goals (Catch g c r) h k = tt
+  found-goals (Findall t g l) h k = tt
   found-goals (Throw b) h k = tt
   found-goals Halt h k = tt
   found-goals (HaltWith n) h k = tt

@@ -13,7 +13,7 @@ use Rattle.wam_machine.specs.Terms.{Said, AreTerms, said, calls_in, is_any_open}
 use Rattle.wam_machine.specs.Goals.{IsSimple}
 use Rattle.wam_machine.specs.View.{setting, state_from, state_with, state_of, stack_of, mode_of, calls, performs_goal, GoesOn, Does, IsHeld, IsHeldIn, IsLeft, IsReady, AreKept}
 use Rattle.wam_machine.specs.declared.control.Control.{Control}
-use Rattle.wam_machine.specs.declared.control.Control.TheVariants.{True, Fail, Cut, Repeat, Both, Either, IfElse, If, Not, Call, Once, Catch, Throw, Halt, HaltWith, Builtin, User}
+use Rattle.wam_machine.specs.declared.control.Control.TheVariants.{True, Fail, Cut, Repeat, Both, Either, IfElse, If, Not, Call, Once, Catch, Findall, Throw, Halt, HaltWith, Builtin, User}
 use Rattle.wam_machine.specs.declared.run.Event.{Event}
 use Rattle.wam_machine.specs.declared.run.Event.TheVariants.{Answer}
 use Rattle.wam_machine.specs.declared.run.RunEnd.{RunEnd}
@@ -39,6 +39,7 @@ is_simple (Not g) h = tt
 is_simple (Call g added) h = tt
 is_simple (Once g) h = tt
 is_simple (Catch g c r) h = tt
+is_simple (Findall t g l) h = tt
 is_simple (Throw b) h = tt
 is_simple Halt h = tt
 is_simple (HaltWith n) h = tt

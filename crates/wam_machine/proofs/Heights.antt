@@ -3,7 +3,7 @@ use Rattle.std.proofs.Common.{◌≡◌, ℕ, zero, suc, ◌+◌, ◌-◌, ◌�
 use Rattle.prolog_terms.specs.Tree.{Tree, variable}
 use Rattle.prolog_terms.specs.Substitutions.{substituted, renamed}
 use Rattle.term_unifier.proofs.Trees.{substituted-after, substituted-same}
-use Rattle.wam_machine.specs.Machine.{Next, Do, ConditionEnd, NotEnd, CatchEnd, Choice, cut_to, next_under, newest, EngineLaws}
+use Rattle.wam_machine.specs.Machine.{Next, Do, ConditionEnd, NotEnd, CatchEnd, FindallEnd, Choice, cut_to, next_under, newest, EngineLaws}
 
 pub newest-append : {A B : Type 0} (f : A → B) (xs ys : List A) (onto : List B) → newest f (xs ++ ys) onto ≡ newest f ys (newest f xs onto)
 newest-append f [] ys onto = refl
@@ -73,6 +73,7 @@ next-under m b (Do g cut) = ap (λ t. Do t cut) (substituted-after m b g)
 next-under m b (ConditionEnd h) = refl
 next-under m b (NotEnd h) = refl
 next-under m b (CatchEnd h) = refl
+next-under m b (FindallEnd t h) = ap (λ u. FindallEnd u h) (substituted-after m b t)
 
 under_both : (m b : ℕ → Tree) (ns : List Next) → map (next_under m) (map (next_under b) ns) ≡ map (next_under (λ v. substituted m (b v))) ns
 under_both m b [] = refl

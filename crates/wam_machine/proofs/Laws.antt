@@ -12,11 +12,11 @@ use Rattle.journal_base.specs.Keys.{keys}
 use Rattle.prolog_terms.specs.Substitutions.{renamed, beyond}
 use Rattle.term_unifier.specs.Unifier.{unifier}
 use Rattle.prolog_terms.specs.Clauses.{body_of}
-use Rattle.term_builtins.specs.Meanings.{Meaning, Holds, Equates, Writes, Puts, Raises}
-use Rattle.wam_machine.specs.Control.{Control, True, Fail, Cut, Repeat, Both, Either, IfElse, If, Not, Call, Once, Catch, Throw, Halt, HaltWith, Builtin, User, control_of, with_added}
+use Rattle.term_builtins.specs.Meanings.{Meaning, Holds, Equates, Writes, Puts, Raises, list_tree}
+use Rattle.wam_machine.specs.Control.{Control, True, Fail, Cut, Repeat, Both, Either, IfElse, If, Not, Call, Once, Catch, Findall, Throw, Halt, HaltWith, Builtin, User, control_of, with_added}
 use Rattle.wam_machine.specs.declared.run.RunEnd.{RunEnd}
 use Rattle.wam_machine.specs.declared.run.RunEnd.TheVariants.{Exhausted, Ball, Spent, Halted}
-use Rattle.wam_machine.specs.Machine.{Next, Do, ConditionEnd, NotEnd, CatchEnd, Alternative, Clauses, Right, Again, NotMark, CatchMark, Choice, Mode, Going, Failing, Raising, State, Setting, Report, Outcome, Goes, Ends, Unfit, no_more, made_all, over, stepping, onwards, height, solving, equating, numbering, body_from, entering, leaving, trying, candidate_clauses, looked, called, calling, call_with, running, calling_added, denying, catching, throwing, halting, cut_back, leaving_catch, active_catch, recovering, reaching, reached, caught, repeating, performing, doing, goal_move, going, back_to, taken, failing, raising, raises, move, Runs, ends, goes, coming_to, calling_builtin}
+use Rattle.wam_machine.specs.Machine.{Next, Do, ConditionEnd, NotEnd, CatchEnd, FindallEnd, Alternative, Clauses, Right, Again, NotMark, CatchMark, FindallMark, Choice, Mode, Going, Failing, Raising, State, Setting, Report, Outcome, Goes, Ends, Unfit, no_more, made_all, over, stepping, onwards, height, solving, equating, numbering, body_from, entering, leaving, trying, candidate_clauses, looked, called, calling, call_with, running, calling_added, denying, catching, gathering, gathered, new_copies, behind_copies, throwing, halting, cut_back, leaving_catch, active_catch, recovering, reaching, reached, caught, repeating, performing, doing, goal_move, going, back_to, taken, failing, raising, raises, move, Runs, ends, goes, coming_to, calling_builtin}
 
 -- ---- one transcript
 
@@ -102,6 +102,13 @@ catching-keeps : (goal catcher recovery : Tree) (s : State) (o : Option Tree) �
 catching-keeps goal catcher recovery s None = refl
 catching-keeps goal catcher recovery s (Some b) = refl
 
+gathering-keeps : (template goal list : Tree) (s : State) (o : Option Tree) → Keeps s.steps (gathering template goal list s o)
+gathering-keeps template goal list s None = refl
+gathering-keeps template goal list s (Some b) = refl
+
+pub gathered-keeps : (list : Tree) (found : List Tree) (s : State) → Keeps s.steps (gathered list found s)
+gathered-keeps list found s = equating-keeps list (list_tree (new_copies s.fresh found)) [] (record s { fresh = behind_copies s.fresh found })
+
 throwing-keeps : (ball : Tree) (s : State) → Keeps s.steps (throwing ball s)
 throwing-keeps (variable n) s = refl
 throwing-keeps (integer z) s = refl
@@ -157,6 +164,7 @@ performing-keeps x goal cut (Not g) s = denying-keeps g s (body_of g)
 performing-keeps x goal cut (Call g added) s = calling_added-keeps g added s
 performing-keeps x goal cut (Once g) s = refl
 performing-keeps x goal cut (Catch g c r) s = catching-keeps g c r s (body_of g)
+performing-keeps x goal cut (Findall t g l) s = gathering-keeps t g l s (body_of g)
 performing-keeps x goal cut (Throw b) s = throwing-keeps b s
 performing-keeps x goal cut Halt s = over-keeps x s (Halted (pos 0))
 performing-keeps x goal cut (HaltWith n) s = halting-keeps x n s
@@ -179,6 +187,7 @@ doing-within x goal cut s (Not g) le = performed-within x goal cut s (Not g) le
 doing-within x goal cut s (Call g added) le = performed-within x goal cut s (Call g added) le
 doing-within x goal cut s (Once g) le = performed-within x goal cut s (Once g) le
 doing-within x goal cut s (Catch g c r) le = performed-within x goal cut s (Catch g c r) le
+doing-within x goal cut s (Findall t g l) le = performed-within x goal cut s (Findall t g l) le
 doing-within x goal cut s (Throw b) le = performed-within x goal cut s (Throw b) le
 doing-within x goal cut s Halt le = performed-within x goal cut s Halt le
 doing-within x goal cut s (HaltWith n) le = performed-within x goal cut s (HaltWith n) le
@@ -202,6 +211,7 @@ going-within x s (Do g cut ∷ rest) le = goal_move-within x g cut (record s { g
 going-within x s (ConditionEnd h ∷ rest) le = le
 going-within x s (NotEnd h ∷ rest) le = le
 going-within x s (CatchEnd h ∷ rest) le = rw (leaving_catch-keeps h (record s { goals = rest })) le
+going-within x s (FindallEnd t h ∷ rest) le = le
 
 taken-within : (x : Setting) (s : State) (a : Alternative) → s.steps ≤ x.budget → Within x.budget (taken x s a)
 taken-within x s (Clauses goal rest) le = stepping-within x s (trying goal rest) le (trying-keeps goal rest)
@@ -209,6 +219,7 @@ taken-within x s (Right goal cut) le = stepping-within x s (onwards (Do goal cut
 taken-within x s Again le = stepping-within x s repeating le (λ t. refl)
 taken-within x s NotMark le = le
 taken-within x s (CatchMark c r) le = le
+taken-within x s (FindallMark l f) le = kept_within x.budget s.steps (gathered l f s) le (gathered-keeps l f s)
 
 failing-within : (x : Setting) (s : State) (st : List Choice) → s.steps ≤ x.budget → Within x.budget (failing x s st)
 failing-within x s [] le = kept_within x.budget s.steps (over x s Exhausted) le (over-keeps x s Exhausted)
@@ -225,6 +236,7 @@ reaching-keeps ball s below c (Clauses goal rest) = refl
 reaching-keeps ball s below c (Right goal cut) = refl
 reaching-keeps ball s below c Again = refl
 reaching-keeps ball s below c NotMark = refl
+reaching-keeps ball s below c (FindallMark l f) = refl
 
 reached-keeps : (x : Setting) (ball : Tree) (s : State) (st : List Choice) → Keeps s.steps (reached x ball s st)
 reached-keeps x ball s [] = over-keeps x s (Ball ball)

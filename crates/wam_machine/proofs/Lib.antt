@@ -56,8 +56,11 @@ pub mod Active
 pub mod Under
 pub mod Thrown
 pub mod Examples
+pub mod FoundAt
+pub mod FoundKept
 pub mod Marks
 pub mod BallTerms
 pub mod BallMoves
+pub mod Gathered
 pub mod CalledRows
 pub mod ActedRows

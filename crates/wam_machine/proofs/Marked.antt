@@ -32,6 +32,7 @@ turn-kept t (is.Right c cut) h = (h.built_is, h.body)
 turn-kept t is.Again h = tt
 turn-kept t is.NotMark h = tt
 turn-kept t (is.CatchMark c r) h = h
+turn-kept t (is.FindallMark c found) h = h
 
 kept-turn : {C : Type 0} (t : Terms C) (what : Alternative C) → IsKeptTurn t.names t.store what → IsTurn t what
 unfolding IsBuilt built
@@ -40,6 +41,7 @@ kept-turn t (is.Right c cut) h = record { built_is = h.0; body = h.1 }
 kept-turn t is.Again h = tt
 kept-turn t is.NotMark h = tt
 kept-turn t (is.CatchMark c r) h = h
+kept-turn t (is.FindallMark c found) h = h
 
 -- ---- a moment is saved
 
@@ -243,3 +245,6 @@ dropped-not tree what e = subst (λ (w : Alternative _). IsCallOf (turn_of tree 
 
 pub dropped-catch : {C : Type 0} (tree : Cell → Tree) (what : Alternative C) (c r : Cell) → what ≡ is.CatchMark c r → IsCallOf (turn_of tree what) None
 dropped-catch tree what c r e = subst (λ (w : Alternative _). IsCallOf (turn_of tree w) None) (sym e) tt
+
+pub dropped-findall : {C : Type 0} (tree : Cell → Tree) (what : Alternative C) (c : Cell) (found : Vec Tree) → what ≡ is.FindallMark c found → IsCallOf (turn_of tree what) None
+dropped-findall tree what c found e = subst (λ (w : Alternative _). IsCallOf (turn_of tree w) None) (sym e) tt

@@ -5,18 +5,19 @@ use Rattle.std.proofs.lemmas.Bool.Decides.{nat_tests}
 use Rattle.prolog_terms.specs.Operators.{Table}
 use Rattle.prolog_terms.specs.Tree.{Tree, Trees, variable, integer, atom, compound, count}
 use Rattle.prolog_terms.specs.Clauses.{body_of, call_term}
-use Rattle.prolog_terms.specs.Substitutions.{renamed, beyond}
+use Rattle.prolog_terms.specs.Substitutions.{renamed, numbered, beyond}
 use Rattle.prolog_terms.specs.declared.entry.Clause.{Clause}
 use Rattle.prolog_terms.specs.declared.entry.Indicator.{Indicator}
 use Rattle.prolog_terms.specs.declared.fault.Fault.TheVariants.{Representation}
 use Rattle.journal_base.specs.Journal.{Journal, number_of}
 use Rattle.journal_base.specs.Keys.{keys}
 use Rattle.term_unifier.specs.Unifier.{unifier}
-use Rattle.term_builtins.specs.Meanings.{Meaning, Holds as Held, Equates, Writes, Puts, Raises}
-use Rattle.wam_machine.specs.Control.{Control, True, Fail, Cut, Repeat, Both, Either, IfElse, If, Not, Call, Once, Catch, Throw, Halt, HaltWith, Builtin, User, control_of, with_added, is_true_atom}
+use Rattle.term_builtins.specs.Meanings.{Meaning, Holds as Held, Equates, Writes, Puts, Raises, list_tree}
+use Rattle.wam_machine.specs.Control.{Control, True, Fail, Cut, Repeat, Both, Either, IfElse, If, Not, Call, Once, Catch, Findall, Throw, Halt, HaltWith, Builtin, User, control_of, with_added, is_true_atom}
+use Rattle.wam_machine.proofs.FoundAt.{found-mark, found-length, found-cut}
 use Rattle.wam_machine.specs.declared.run.RunEnd.{RunEnd}
 use Rattle.wam_machine.specs.declared.run.RunEnd.TheVariants.{Exhausted, Ball, Spent, Halted}
-use Rattle.wam_machine.specs.Machine.{Next, Do, ConditionEnd, NotEnd, CatchEnd, Alternative, Clauses, Right, Again, NotMark, CatchMark, Choice, Mode, Going, Failing, Raising, State, Setting, Outcome, Goes, Ends, Unfit, no_more, made_all, over, stepping, onwards, pushed, height, cut_to, cut_back, next_under, solving, numbering, body_from, entering, leaving, trying, candidate_clauses, looked, called, calling, call_with, raises, running, calling_added, denying, catching, throwing, halting, repeating, performing, doing, goal_move, going, back_to, taken, failing, active_catch, recovering, reaching, reached, caught, raising, move, beginning, Reaches, here, further, is_mark, HasMark, CatchesHaveMarks, coming_to, calling_builtin}
+use Rattle.wam_machine.specs.Machine.{Next, Do, ConditionEnd, NotEnd, CatchEnd, FindallEnd, Alternative, Clauses, Right, Again, NotMark, CatchMark, FindallMark, Choice, Mode, Going, Failing, Raising, State, Setting, Outcome, Goes, Ends, Unfit, no_more, made_all, over, stepping, onwards, pushed, height, cut_to, cut_back, next_under, solving, numbering, body_from, entering, leaving, trying, candidate_clauses, looked, called, calling, call_with, raises, running, calling_added, denying, catching, gathering, gathered, new_copies, behind_copies, with_found, found_at, throwing, halting, repeating, performing, doing, goal_move, going, back_to, taken, failing, active_catch, recovering, reaching, reached, caught, raising, move, beginning, Reaches, here, further, is_mark, HasMark, CatchesHaveMarks, coming_to, calling_builtin}
 
 -- ---- what holds of a state
 
@@ -27,6 +28,7 @@ low (Do g cut ∷ rest) = low rest
 low (ConditionEnd h ∷ rest) = low rest
 low (NotEnd h ∷ rest) = low rest
 low (CatchEnd h ∷ rest) = h
+low (FindallEnd t h ∷ rest) = low rest
 
 -- before the end of a `catch` nothing is cut to below its mark
 abbrev Nested : List Choice → List Next → Type 0
@@ -35,6 +37,7 @@ Nested st (Do g cut ∷ rest) = (low rest ≤ cut) × Nested st rest
 Nested st (ConditionEnd h ∷ rest) = (low rest ≤ h) × Nested st rest
 Nested st (NotEnd h ∷ rest) = (low rest ≤ h) × Nested st rest
 Nested st (CatchEnd h ∷ rest) = (low rest < h) × (HasMark h st × Nested st rest)
+Nested st (FindallEnd t h ∷ rest) = Nested st rest
 
 abbrev Fits : Alternative → List Next → Type 0
 Fits (Clauses goal rest) gs = Unit {0}
@@ -42,6 +45,7 @@ Fits (Right goal cut) gs = low gs ≤ cut
 Fits Again gs = Unit {0}
 Fits NotMark gs = Unit {0}
 Fits (CatchMark c r) gs = Unit {0}
+Fits (FindallMark l f) gs = Unit {0}
 
 abbrev Stacked : List Choice → Type 0
 Stacked [] = Unit {0}
@@ -95,6 +99,7 @@ nested-push c st (Do g cut ∷ rest) h = (h.0, nested-push c st rest h.1)
 nested-push c st (ConditionEnd k ∷ rest) h = (h.0, nested-push c st rest h.1)
 nested-push c st (NotEnd k ∷ rest) h = (h.0, nested-push c st rest h.1)
 nested-push c st (CatchEnd k ∷ rest) h = (h.0, (mark-push c k st h.1.0, nested-push c st rest h.1.1))
+nested-push c st (FindallEnd t k ∷ rest) h = nested-push c st rest h
 
 nested-cut : (k : ℕ) (st : List Choice) (gs : List Next) → low gs ≤ k → Nested st gs → Nested (cut_to k st) gs
 nested-cut k st [] l h = tt
@@ -102,6 +107,7 @@ nested-cut k st (Do g cut ∷ rest) l h = (h.0, nested-cut k st rest l h.1)
 nested-cut k st (ConditionEnd n ∷ rest) l h = (h.0, nested-cut k st rest l h.1)
 nested-cut k st (NotEnd n ∷ rest) l h = (h.0, nested-cut k st rest l h.1)
 nested-cut k st (CatchEnd n ∷ rest) l h = let b = h.0 in (h.0, (mark-cut n k st l h.1.0, nested-cut k st rest (omega (arith, l)) h.1.1))
+nested-cut k st (FindallEnd t n ∷ rest) l h = nested-cut k st rest l h
 
 low_height : (st : List Choice) (gs : List Next) → Nested st gs → low gs ≤ length st
 low_height st [] h = omega arith
@@ -109,6 +115,7 @@ low_height st (Do g cut ∷ rest) h = low_height st rest h.1
 low_height st (ConditionEnd n ∷ rest) h = low_height st rest h.1
 low_height st (NotEnd n ∷ rest) h = low_height st rest h.1
 low_height st (CatchEnd n ∷ rest) h = mark-high n st h.1.0
+low_height st (FindallEnd t n ∷ rest) h = low_height st rest h
 
 low_under : (m : ℕ → Tree) (gs : List Next) → low (map (next_under m) gs) ≡ low gs
 low_under m [] = refl
@@ -116,6 +123,7 @@ low_under m (Do g cut ∷ rest) = low_under m rest
 low_under m (ConditionEnd n ∷ rest) = low_under m rest
 low_under m (NotEnd n ∷ rest) = low_under m rest
 low_under m (CatchEnd n ∷ rest) = refl
+low_under m (FindallEnd t n ∷ rest) = low_under m rest
 
 nested_under : (m : ℕ → Tree) (st : List Choice) (gs : List Next) → Nested st gs → Nested st (map (next_under m) gs)
 nested_under m st [] h = tt
@@ -123,17 +131,54 @@ nested_under m st (Do g cut ∷ rest) h = (subst (λ n. n ≤ cut) (sym (low_und
 nested_under m st (ConditionEnd k ∷ rest) h = (subst (λ n. n ≤ k) (sym (low_under m rest)) h.0, nested_under m st rest h.1)
 nested_under m st (NotEnd k ∷ rest) h = (subst (λ n. n ≤ k) (sym (low_under m rest)) h.0, nested_under m st rest h.1)
 nested_under m st (CatchEnd k ∷ rest) h = (subst (λ n. n < k) (sym (low_under m rest)) h.0, (h.1.0, nested_under m st rest h.1.1))
+nested_under m st (FindallEnd t k ∷ rest) h = nested_under m st rest h
 
 stacked-drop : (n : ℕ) (st : List Choice) → Stacked st → Stacked (drop n st)
 stacked-drop zero st h = h
 stacked-drop (suc n) [] h = tt
 stacked-drop (suc n) (c ∷ st) h = stacked-drop n st h.1.1
 
+-- ---- one more copy that is found
+
+mark-found : (h : ℕ) (copy : Tree) (k : ℕ) (st : List Choice) → HasMark k st → HasMark k (found_at h copy st)
+mark-found h copy k st (c, (below, (e, n, m))) = go (suc (length below) == h) (found-cut k h copy st ∙ ap (found_at h copy) e)
+  where
+    go : (b : Bool) → cut_to k (found_at h copy st) ≡ (if b then record c { what = with_found copy c.what } ∷ below else c ∷ found_at h copy below) → HasMark k (found_at h copy st)
+    go true f = (record c { what = with_found copy c.what }, (below, (f, n, found-mark copy c.what ∙ m)))
+    go false f = (c, (found_at h copy below, (f, ap suc (found-length h copy below) ∙ n, m)))
+
+nested-found : (h : ℕ) (copy : Tree) (st : List Choice) (gs : List Next) → Nested st gs → Nested (found_at h copy st) gs
+nested-found h copy st [] n = tt
+nested-found h copy st (Do g cut ∷ rest) n = (n.0, nested-found h copy st rest n.1)
+nested-found h copy st (ConditionEnd k ∷ rest) n = (n.0, nested-found h copy st rest n.1)
+nested-found h copy st (NotEnd k ∷ rest) n = (n.0, nested-found h copy st rest n.1)
+nested-found h copy st (CatchEnd k ∷ rest) n = (n.0, (mark-found h copy k st n.1.0, nested-found h copy st rest n.1.1))
+nested-found h copy st (FindallEnd t k ∷ rest) n = nested-found h copy st rest n
+
+fits-found : (copy : Tree) (a : Alternative) (gs : List Next) → Fits a gs → Fits (with_found copy a) gs
+fits-found copy (Clauses goal rest) gs f = f
+fits-found copy (Right goal cut) gs f = f
+fits-found copy Again gs f = f
+fits-found copy NotMark gs f = f
+fits-found copy (CatchMark c r) gs f = f
+fits-found copy (FindallMark l fs) gs f = f
+
+stacked-found : (h : ℕ) (copy : Tree) (st : List Choice) → Stacked st → Stacked (found_at h copy st)
+stacked-found h copy [] s = tt
+stacked-found h copy (c ∷ below) s = go (suc (length below) == h) (stacked-found h copy below s.1.1)
+  where
+    go : (b : Bool) → Stacked (found_at h copy below) → Stacked (if b then record c { what = with_found copy c.what } ∷ below else c ∷ found_at h copy below)
+    go true more = (s.0, (fits-found copy c.what c.goals s.1.0, s.1.1))
+    go false more = (nested-found h copy below c.goals s.0, (s.1.0, more))
+
+-- ---- the active `catch`
+
 active-mark : (st : List Choice) (gs : List Next) (h : ℕ) → Nested st gs → active_catch gs ≡ Some h → HasMark h st
 active-mark st [] h n e = absurd (cc e)
 active-mark st (Do g cut ∷ rest) h n e = active-mark st rest h n.1 e
 active-mark st (ConditionEnd k ∷ rest) h n e = active-mark st rest h n.1 e
 active-mark st (NotEnd k ∷ rest) h n e = active-mark st rest h n.1 e
+active-mark st (FindallEnd t k ∷ rest) h n e = active-mark st rest h n e
 active-mark st (CatchEnd k ∷ rest) h n e = subst (λ i. HasMark i st) (same k h e) n.1.0
   where
     same : (i j : ℕ) → Some i ≡ Some j → i ≡ j
@@ -144,6 +189,7 @@ active-low [] h e = absurd (cc e)
 active-low (Do g cut ∷ rest) h e = active-low rest h e
 active-low (ConditionEnd k ∷ rest) h e = active-low rest h e
 active-low (NotEnd k ∷ rest) h e = active-low rest h e
+active-low (FindallEnd t k ∷ rest) h e = active-low rest h e
 active-low (CatchEnd k ∷ rest) h e = same k h e
   where
     same : (i j : ℕ) → Some i ≡ Some j → i ≡ j
@@ -265,6 +311,16 @@ catching-kept goal catcher recovery s (Some body) h =
     mark : HasMark (suc (length s.stack)) (first ∷ s.stack)
     mark = (first, (s.stack, (drop-none (first ∷ s.stack) (suc (length s.stack) - suc (length s.stack)) none, refl, refl)))
 
+gathering-kept : (template goal list : Tree) (s : State) (o : Option Tree) → Holds s → Kept (gathering template goal list s o)
+gathering-kept template goal list s None h = record { nested = h.nested; stacked = h.stacked }
+gathering-kept template goal list s (Some body) h =
+    let k : Holds (pushed (FindallMark list []) s) = pushed-holds (FindallMark list []) s tt h in
+    record { nested = (higher (low s.goals) (length s.stack) (low_height s.stack s.goals h.nested), k.nested); stacked = k.stacked }
+
+gathered-kept : (list : Tree) (found : List Tree) (s : State) → Holds s → Kept (gathered list found s)
+gathered-kept list found s h =
+    solving-kept [] (record s { fresh = behind_copies s.fresh found }) (unifier list (list_tree (new_copies s.fresh found))) h.nested (record { nested = h.nested; stacked = h.stacked })
+
 throwing-kept : (ball : Tree) (s : State) → Holds s → Kept (throwing ball s)
 throwing-kept (variable n) s h = record { nested = h.nested; stacked = h.stacked }
 throwing-kept (integer z) s h = record { nested = h.nested; stacked = h.stacked }
@@ -295,6 +351,7 @@ performing-kept x goal cut (Not g) s l h = denying-kept g s (body_of g) h
 performing-kept x goal cut (Call g added) s l h = calling_added-kept g added s h
 performing-kept x goal cut (Once g) s l h = record { nested = (l, h.nested); stacked = h.stacked }
 performing-kept x goal cut (Catch g c r) s l h = catching-kept g c r s (body_of g) h
+performing-kept x goal cut (Findall t g r) s l h = gathering-kept t g r s (body_of g) h
 performing-kept x goal cut (Throw b) s l h = throwing-kept b s h
 performing-kept x goal cut Halt s l h = over-kept x s (Halted (pos 0))
 performing-kept x goal cut (HaltWith n) s l h = halting-kept x n s h
@@ -324,6 +381,7 @@ doing-kept x goal cut s (Not g) l h = performed-kept x goal cut s (Not g) l h
 doing-kept x goal cut s (Call g added) l h = performed-kept x goal cut s (Call g added) l h
 doing-kept x goal cut s (Once g) l h = performed-kept x goal cut s (Once g) l h
 doing-kept x goal cut s (Catch g c r) l h = performed-kept x goal cut s (Catch g c r) l h
+doing-kept x goal cut s (Findall t g r) l h = performed-kept x goal cut s (Findall t g r) l h
 doing-kept x goal cut s (Throw b) l h = performed-kept x goal cut s (Throw b) l h
 doing-kept x goal cut s Halt l h = performed-kept x goal cut s Halt l h
 doing-kept x goal cut s (HaltWith n) l h = performed-kept x goal cut s (HaltWith n) l h
@@ -340,6 +398,7 @@ going-kept x s (Do g cut ∷ rest) n h = goal_move-kept x g cut (record s { goal
 going-kept x s (ConditionEnd k ∷ rest) n h = cut-holds k (record s { goals = rest }) n.0 (record { nested = n.1; stacked = h.stacked })
 going-kept x s (NotEnd k ∷ rest) n h =
     let c : Holds (cut_back k (record s { goals = rest })) = cut-holds k (record s { goals = rest }) n.0 (record { nested = n.1; stacked = h.stacked }) in record { nested = c.nested; stacked = c.stacked }
+going-kept x s (FindallEnd t k ∷ rest) n h = record { nested = nested-found k (numbered t) s.stack rest n; stacked = stacked-found k (numbered t) s.stack h.stacked }
 going-kept x s (CatchEnd k ∷ rest) n h = go (height s == k)
   where
     t : State
@@ -361,6 +420,7 @@ taken-kept x s (Right goal cut) f h = stepping-kept x s (onwards (Do goal cut �
 taken-kept x s Again f h = stepping-kept x s repeating (let k : Holds (pushed Again s) = pushed-holds Again s tt h in record { nested = k.nested; stacked = k.stacked })
 taken-kept x s NotMark f h = h
 taken-kept x s (CatchMark c r) f h = record { nested = h.nested; stacked = h.stacked }
+taken-kept x s (FindallMark l fs) f h = gathered-kept l fs s h
 
 failing-kept : (x : Setting) (s : State) (st : List Choice) → Stacked st → Kept (failing x s st)
 failing-kept x s [] h = over-kept x s Exhausted
@@ -380,6 +440,7 @@ reaching-kept ball s below c (Clauses goal rest) m n h = absurd cc
 reaching-kept ball s below c (Right goal cut) m n h = absurd cc
 reaching-kept ball s below c Again m n h = absurd cc
 reaching-kept ball s below c NotMark m n h = absurd cc
+reaching-kept ball s below c (FindallMark l f) m n h = absurd cc
 
 reached-kept : (x : Setting) (ball : Tree) (s : State) (st : List Choice) → ((c : Choice) (below : List Choice) → st ≡ c ∷ below → is_mark c.what ≡ true) → Stacked st → Kept (reached x ball s st)
 reached-kept x ball s [] m h = over-kept x s (Ball ball)

@@ -10,10 +10,10 @@ use Rattle.prolog_terms.specs.declared.fault.Fault.TheVariants.{Existence}
 use Rattle.journal_base.specs.Calls.{Goal}
 use Rattle.journal_base.specs.Journal.{Journal, number_of}
 use Rattle.journal_base.specs.Keys.{keys}
-use Rattle.wam_machine.specs.Control.{Control, True, Fail, Cut, Repeat, Both, Either, IfElse, If, Not, Call, Once, Catch, Throw, Halt, HaltWith, Builtin, User, control_of}
+use Rattle.wam_machine.specs.Control.{Control, True, Fail, Cut, Repeat, Both, Either, IfElse, If, Not, Call, Once, Catch, Findall, Throw, Halt, HaltWith, Builtin, User, control_of}
 use Rattle.wam_machine.specs.Machine as spec
-use Rattle.wam_machine.specs.Machine.{Next, Do, Alternative, Clauses, Right, Again, NotMark, CatchMark, State, Setting, Outcome, Goes, Ends, Look, Report, Going, Failing, Raising, move, trying, calling, called, candidate_clauses, call_of, goal_move, doing, performing, stepping, taken, back_to, is_alternative, made_all, over, newest}
-use Rattle.wam_machine.specs.Terms.{Turn, OfCall, OfRight, OfRepeat, OfNot, OfCatch, Saved, is_open, is_any_open}
+use Rattle.wam_machine.specs.Machine.{Next, Do, Alternative, Clauses, Right, Again, NotMark, CatchMark, FindallMark, State, Setting, Outcome, Goes, Ends, Look, Report, Going, Failing, Raising, move, trying, calling, called, candidate_clauses, call_of, goal_move, doing, performing, stepping, taken, back_to, is_alternative, made_all, over, newest}
+use Rattle.wam_machine.specs.Terms.{Turn, OfCall, OfRight, OfRepeat, OfNot, OfCatch, OfFindall, Saved, is_open, is_any_open}
 use Rattle.wam_machine.specs.View.{alternative_of, choice_of, state_from, stack_of, resuming}
 use Rattle.wam_machine.specs.declared.run.Event.{Event}
 use Rattle.wam_machine.specs.declared.run.RunEnd.{RunEnd}
@@ -34,6 +34,7 @@ module _ {C : Type 0} (rest : C → Goal → Journal → List ℕ) (at : C → �
   open-is OfRepeat = refl
   open-is OfNot = refl
   open-is (OfCatch c r) = refl
+  open-is (OfFindall l f) = refl
 
   any-onto : (xs : List (Saved C)) (onto : List spec.Choice)
       → list_any (λ c. is_alternative c.what) (newest (choice_of rest at j) xs onto) ≡ (is_any_open xs || list_any (λ c. is_alternative c.what) onto)
@@ -89,6 +90,7 @@ TakesStep (Not g) = Unit {0}
 TakesStep (Call g added) = Unit {0}
 TakesStep (Once g) = Unit {0}
 TakesStep (Catch g c r) = Unit {0}
+TakesStep (Findall t g l) = Unit {0}
 TakesStep (Throw b) = Unit {0}
 TakesStep Halt = Unit {0}
 TakesStep (HaltWith n) = Unit {0}
@@ -108,6 +110,7 @@ doing-steps x goal cut s (Not g) h = refl
 doing-steps x goal cut s (Call g added) h = refl
 doing-steps x goal cut s (Once g) h = refl
 doing-steps x goal cut s (Catch g c r) h = refl
+doing-steps x goal cut s (Findall t g l) h = refl
 doing-steps x goal cut s (Throw b) h = refl
 doing-steps x goal cut s Halt h = refl
 doing-steps x goal cut s (HaltWith n) h = refl
@@ -120,6 +123,7 @@ taken-steps x s (Right goal cut) h = refl
 taken-steps x s Again h = refl
 taken-steps x s NotMark h = absurd (cc h)
 taken-steps x s (CatchMark c r) h = absurd (cc h)
+taken-steps x s (FindallMark l f) h = absurd (cc h)
 
 pub stepping-on : (x : Setting) (s : State) (f : State → Outcome) → s.steps ≢ x.budget → stepping x s f ≡ f (record s { steps = s.steps + 1 })
 stepping-on x s f d =

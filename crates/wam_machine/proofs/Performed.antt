@@ -12,7 +12,7 @@ use Rattle.wam_machine.specs.Machine.{Setting, performing}
 use Rattle.wam_machine.specs.Goals.{IsSimple, control_in}
 use Rattle.wam_machine.specs.View.{state_of, performs_goal, GoesOn, ComesToEnd, Does, IsHeld}
 use Rattle.wam_machine.specs.declared.control.Control.{Control}
-use Rattle.wam_machine.specs.declared.control.Control.TheVariants.{True, Fail, Cut, Repeat, Both, Either, IfElse, If, Not, Call, Once, Catch, Throw, Halt, HaltWith, Builtin, User}
+use Rattle.wam_machine.specs.declared.control.Control.TheVariants.{True, Fail, Cut, Repeat, Both, Either, IfElse, If, Not, Call, Once, Catch, Findall, Throw, Halt, HaltWith, Builtin, User}
 use Rattle.wam_machine.specs.declared.run.RunEnd.{RunEnd}
 use Rattle.wam_machine.specs.declared.run.RunEnd.TheVariants.{Spent}
 use Rattle.wam_machine.specs.declared.state.Machine.{Machine}
@@ -48,6 +48,7 @@ takes_step tree (Not g) h = tt
 takes_step tree (Call g added) h = tt
 takes_step tree (Once g) h = tt
 takes_step tree (Catch g c r) h = tt
+takes_step tree (Findall t g l) h = tt
 takes_step tree (Throw b) h = tt
 takes_step tree Halt h = tt
 takes_step tree (HaltWith n) h = tt

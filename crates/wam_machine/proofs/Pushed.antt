@@ -21,6 +21,7 @@ waiting-now t (waits.Do c h) g = (g.built_is, g.body)
 waiting-now t (waits.ConditionEnd h) g = tt
 waiting-now t (waits.NotEnd h) g = tt
 waiting-now t (waits.CatchEnd h) g = tt
+waiting-now t (waits.FindallEnd c h) g = g
 
 pub next-waiting : {C : Type 0} (t : Terms C) (what : Waiting) → IsWaiting t.names t.store what → IsNext t what
 unfolding IsBuilt built
@@ -28,6 +29,7 @@ next-waiting t (waits.Do c h) g = record { built_is = g.0; body = g.1 }
 next-waiting t (waits.ConditionEnd h) g = tt
 next-waiting t (waits.NotEnd h) g = tt
 next-waiting t (waits.CatchEnd h) g = tt
+next-waiting t (waits.FindallEnd c h) g = g
 
 -- the moments that may be gone back to need no more than those that they keep
 pub choices-kept : {C : Type 0} (t : Terms C) (n m : ℕ) (cs : List (Choice C)) → frames_kept cs ≤ m

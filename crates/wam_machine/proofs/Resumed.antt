@@ -11,7 +11,7 @@ use Rattle.journal_base.specs.declared.tally.Tally.{Tally}
 use Rattle.wam_machine.specs.Machine as spec
 use Rattle.wam_machine.specs.Machine.{Next, State, Setting, Outcome, Goes, Ends, Look, move, back_to}
 use Rattle.wam_machine.specs.Cursors.{AreNamed}
-use Rattle.wam_machine.specs.Terms.{Left, Turn, OfCall, OfRight, OfRepeat, OfNot, OfCatch, Saved, Said, AreTerms, HasNewest, HasCatch, said, call_in, calls_in, is_open, is_catch}
+use Rattle.wam_machine.specs.Terms.{Left, Turn, OfCall, OfRight, OfRepeat, OfNot, OfCatch, OfFindall, Saved, Said, AreTerms, HasNewest, HasCatch, said, call_in, calls_in, is_open, is_catch}
 use Rattle.wam_machine.specs.View.{alternative_of, choice_of, stack_of, mode_of, state_from, state_of, resuming, calls, turn_calls, all_visits, aheads, Acts, GoesOn, ComesToEnd, IsHeld, IsHeldIn, Tries, Resumes, KeepsCounts}
 use Rattle.wam_machine.specs.declared.run.RunEnd.TheVariants.{Spent}
 use Rattle.wam_machine.specs.declared.state.Machine.{Machine}
@@ -29,6 +29,7 @@ one-turn (OfRight g h) = refl
 one-turn OfRepeat = refl
 one-turn OfNot = refl
 one-turn (OfCatch c r) = refl
+one-turn (OfFindall l f) = refl
 
 pub calls-turn : {C : Type 0} (ss : List (Saved C)) (s : Saved C) → calls_in (ss ++ s ∷ []) ≡ calls_in ss ++ turn_calls s.turn
 calls-turn ss s = calls-push ss s ∙ ap (λ cs. calls_in ss ++ cs) (one-turn s.turn)
@@ -59,12 +60,6 @@ module _ {C : Type 0} (rest : C → Goal → Journal → List ℕ) (may : C → 
       plus : (n : ℕ) → n ≡ n + 0
       plus n = omega arith
 
-pub acts_still : {C : Type 0} (m : Machine C) → AreTerms m.terms → Acts (λ s. Goes s) m m
-acts_still m terms = record { terms = terms; same = refl; shown = refl; calls_are = refl; goes = λ rest at j looks tried fronts. refl }
-
-pub acts_fails : {C : Type 0} (m : Machine C) → AreTerms m.terms → Acts (λ s. spec.fails s) m (record m { mode = IsFailing })
-acts_fails m terms = record { terms = terms; same = refl; shown = refl; calls_are = refl; goes = λ rest at j looks tried fronts. refl }
-
 -- ---- back at a moment
 
 -- the moment, as it is said where it was gone back to
@@ -73,7 +68,7 @@ moment turn t = record { turn = turn; goals = t.goals; bindings = t.bindings }
 
 module _ {C : Type 0} (x : Setting) (m : Machine C) (failing : m.mode ≡ IsFailing) where
   module _ (rest : C → Goal → Journal → List ℕ) (at : C → ℕ) (j : Journal) (looks : List Look) (tried : ℕ) (fronts : List ℕ) where
-    came_back : (ss : List (Saved C)) (s : Saved C) → (said m.terms).stack ≡ ss ++ s ∷ []
+    pub came_back : (ss : List (Saved C)) (s : Saved C) → (said m.terms).stack ≡ ss ++ s ∷ []
         → move x (state_of rest at j m looks tried fronts) ≡ spec.taken x (back_to (state_of rest at j m looks tried fronts) (choice_of rest at j s) (stack_of rest at j ss)) (alternative_of rest at j s.turn)
     came_back ss s is =
         fails_back x (state_of rest at j m looks tried fronts) (choice_of rest at j s) (stack_of rest at j ss) (ap mode_of failing) (ap (stack_of rest at j) is ∙ stack-push rest at j ss s)

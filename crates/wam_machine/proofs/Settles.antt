@@ -4,14 +4,16 @@ use Rattle.std.proofs.Common.{◌≡◌, ℕ, zero, suc, ◌+◌, ◌-◌, ◌<�
 use Rattle.std.specs.Prelude.{Option, Some, None, ◌⊎◌, ◌==◌, if◌then◌else◌, ◌&&◌, codes, nat_lt}
 use Rattle.prolog_terms.specs.Tree.{Tree, Trees, variable, integer, atom, compound, none, more, count}
 use Rattle.prolog_terms.specs.Clauses.{is_named, call_term}
-use Rattle.prolog_terms.specs.Substitutions.{renamed, beyond}
+use Rattle.prolog_terms.specs.Substitutions.{renamed, beyond, numbered}
 use Rattle.std.proofs.lemmas.Bool.{ltb-true}
 use Rattle.term_unifier.specs.Unifier.{unifier}
+use Rattle.term_builtins.specs.Meanings.{list_tree}
 use Rattle.term_builtins.specs.Table.{builtins, place_in}
-use Rattle.wam_machine.specs.Control.{Control, True, Fail, Cut, Repeat, Both, Either, IfElse, If, Not, Call, Once, Catch, Throw, Halt, HaltWith, Builtin, User, control_of, control_with_none, control_with_one, control_of_either, control_with_two, control_with_three, control_with_more, plain, builtin_or_user}
+use Rattle.wam_machine.specs.Control.{Control, True, Fail, Cut, Repeat, Both, Either, IfElse, If, Not, Call, Once, Catch, Findall, Throw, Halt, HaltWith, Builtin, User, control_of, control_with_none, control_with_one, control_of_either, control_with_two, control_with_three, control_with_more, plain, builtin_or_user}
 use Rattle.wam_machine.specs.declared.run.RunEnd.{RunEnd}
 use Rattle.wam_machine.specs.declared.run.RunEnd.TheVariants.{Exhausted, Ball, Spent}
-use Rattle.wam_machine.specs.Machine.{Next, Do, ConditionEnd, NotEnd, CatchEnd, Alternative, Clauses, Right, Again, NotMark, CatchMark, Choice, Mode, Going, Failing, Raising, State, Setting, Report, Outcome, Goes, Ends, Unfit, no_more, made_all, over, stepping, onwards, height, cut_to, cut_back, bound_further, active_catch, recovering, reaching, reached, caught, trying, repeating, performing, doing, goal_move, answer, back_to, taken, move, Runs, ends, goes, beginning, Misfits, unfit, later, HasTranscript}
+use Rattle.wam_machine.specs.Machine.{Next, Do, ConditionEnd, NotEnd, CatchEnd, FindallEnd, Alternative, Clauses, Right, Again, NotMark, CatchMark, FindallMark, Choice, Mode, Going, Failing, Raising, State, Setting, Report, Outcome, Goes, Ends, Unfit, no_more, made_all, over, stepping, onwards, height, cut_to, cut_back, bound_further, solving, gathered, new_copies, behind_copies, found_at, active_catch, recovering, reaching, reached, caught, trying, repeating, performing, doing, goal_move, answer, back_to, taken, move, Runs, ends, goes, beginning, Misfits, unfit, later, HasTranscript}
+use Rattle.wam_machine.proofs.FoundAt.{found-length}
 use Rattle.wam_machine.proofs.Laws.{Keeps, Within, trying-keeps, performing-keeps, move-within}
 
 -- a step is taken, the run is over, or the move doesn't fit
@@ -62,6 +64,7 @@ goals_weight (Do g h ∷ rest) = weight g + goals_weight rest
 goals_weight (ConditionEnd h ∷ rest) = suc (goals_weight rest)
 goals_weight (NotEnd h ∷ rest) = suc (goals_weight rest)
 goals_weight (CatchEnd h ∷ rest) = suc (goals_weight rest)
+goals_weight (FindallEnd t h ∷ rest) = suc (goals_weight rest)
 
 -- a conjunction is heavier than its parts
 abbrev Lighter : ℕ → Control → Type 0
@@ -126,7 +129,8 @@ light_two f t u =
 light_three : (w : ℕ) (f : List ℕ) (t u v : Tree) → Lighter w (control_with_three f t u v)
 light_three w f t u v =
     choose w (is_named (codes "catch") f) _ _ (λ a b e. cc e) (
-    choose w (is_named (codes "call") f) _ _ (λ a b e. cc e) (light_plain w f (more t (more u (more v none)))))
+    choose w (is_named (codes "findall") f) _ _ (λ a b e. cc e) (
+    choose w (is_named (codes "call") f) _ _ (λ a b e. cc e) (light_plain w f (more t (more u (more v none))))))
 
 light_more : (w : ℕ) (f : List ℕ) (t : Tree) (ts : Trees) → Lighter w (control_with_more f t ts)
 light_more w f t ts = choose w (is_named (codes "call") f && nat_lt (count ts) 8) _ _ (λ a b e. cc e) (light_plain w f (more t ts))
@@ -170,6 +174,7 @@ doing_good x goal cut s r (Not g) e next = inl (performed x goal cut s r (Not g)
 doing_good x goal cut s r (Call g added) e next = inl (performed x goal cut s r (Call g added) e)
 doing_good x goal cut s r (Once g) e next = inl (performed x goal cut s r (Once g) e)
 doing_good x goal cut s r (Catch g c f) e next = inl (performed x goal cut s r (Catch g c f) e)
+doing_good x goal cut s r (Findall t g l) e next = inl (performed x goal cut s r (Findall t g l) e)
 doing_good x goal cut s r (Throw b) e next = inl (performed x goal cut s r (Throw b) e)
 doing_good x goal cut s r Halt e next = inl (performed x goal cut s r Halt e)
 doing_good x goal cut s r (HaltWith n) e next = inl (performed x goal cut s r (HaltWith n) e)
@@ -181,12 +186,17 @@ goal_good x goal cut s r None e next = inl tt
 goal_good x goal cut s r (Some c) e next = doing_good x goal cut s r c e (λ a b f. next a b (ap Some f))
 
 module _ (x : Setting) (k : ℕ) (smaller : (s : State) → length s.stack < k → Settles x s) where
+  solving_good : (s t : State) (o : Option (ℕ → Tree)) → t.steps ≡ s.steps → length t.stack < k → Good x s (solving [] t o)
+  solving_good s t None e lt = inr (record t { mode = Failing }, refl, e, smaller (record t { mode = Failing }) lt)
+  solving_good s t (Some m) e lt = inr (bound_further m t, refl, e, smaller (bound_further m t) lt)
+
   taken_good : (s : State) (a : Alternative) → length s.stack < k → Good x s (taken x s a)
   taken_good s (Clauses goal rest) lt = inl (stepping-stops x s (trying goal rest) (trying-keeps goal rest))
   taken_good s (Right goal cut) lt = inl (stepping-stops x s (onwards (Do goal cut ∷ [])) (λ t. refl))
   taken_good s Again lt = inl (stepping-stops x s repeating (λ t. refl))
   taken_good s NotMark lt = inr (s, refl, refl, smaller s lt)
   taken_good s (CatchMark c r) lt = inr (record s { mode = Failing }, refl, refl, smaller (record s { mode = Failing }) lt)
+  taken_good s (FindallMark l f) lt = solving_good s (record s { fresh = behind_copies s.fresh f }) (unifier l (list_tree (new_copies s.fresh f))) refl lt
 
   failing_settles : (s : State) (st : List Choice) → length st < suc k → Settles x (record s { mode = Failing; stack = st })
   failing_settles s [] lt = stops (over-stops x (record s { mode = Failing; stack = [] }) Exhausted s.steps)
@@ -214,6 +224,11 @@ module _ (x : Setting) (k : ℕ) (smaller : (s : State) → length s.stack < k �
           → Settles x (record s { mode = Going; goals = CatchEnd h ∷ rest; stack = st })
       go true e one other = moves (rw e refl) refl one
       go false e one other = moves (rw e refl) refl other
+  going_settles (suc w) s (FindallEnd t h ∷ rest) st lw lt =
+      moves refl refl (failing_settles (record s { goals = rest }) (found_at h (numbered t) st) (same (found-length h (numbered t) st)))
+    where
+      same : length (found_at h (numbered t) st) ≡ length st → length (found_at h (numbered t) st) < suc k
+      same e = omega (arith, lt, e)
 
   recovering_good : (s t : State) (ball recovery : Tree) (o : Option (ℕ → Tree)) → t.steps ≡ s.steps → length t.stack < k → Good x s (recovering ball recovery t o)
   recovering_good s t ball recovery None e lt = inr (record t { mode = Raising ball }, refl, e, smaller (record t { mode = Raising ball }) lt)
@@ -227,6 +242,7 @@ module _ (x : Setting) (k : ℕ) (smaller : (s : State) → length s.stack < k �
   reaching_good s ball below c (Right goal cut) lt = inr (record s { stack = below }, refl, refl, smaller (record s { stack = below }) lt)
   reaching_good s ball below c Again lt = inr (record s { stack = below }, refl, refl, smaller (record s { stack = below }) lt)
   reaching_good s ball below c NotMark lt = inr (record s { stack = below }, refl, refl, smaller (record s { stack = below }) lt)
+  reaching_good s ball below c (FindallMark l f) lt = inr (record s { stack = below }, refl, refl, smaller (record s { stack = below }) lt)
 
   reached_good : (s : State) (ball : Tree) (st : List Choice) → length st < suc k → Good x s (reached x ball s st)
   reached_good s ball [] lt = inl (over-stops x s (Ball ball) s.steps)

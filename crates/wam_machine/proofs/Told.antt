@@ -10,7 +10,7 @@ use Rattle.term_store.specs.declared.cell.Cell.{Cell}
 use Rattle.term_store.specs.Shape.{Shape}
 use Rattle.term_store.specs.Terms.{term_of, meaning, HasTerm, AreNamed}
 use Rattle.term_store.specs.Later.{AreDistinct, back}
-use Rattle.wam_machine.specs.Machine.{Next, Do, next_under}
+use Rattle.wam_machine.specs.Machine.{Next, Do, FindallEnd, next_under}
 use Rattle.wam_machine.specs.declared.terms.Alternative.{Alternative}
 use Rattle.wam_machine.specs.declared.terms.Alternative.TheVariants as is
 use Rattle.wam_machine.specs.declared.terms.Choice.{Choice}
@@ -18,7 +18,7 @@ use Rattle.wam_machine.specs.declared.terms.Frame.{Frame}
 use Rattle.wam_machine.specs.declared.terms.Next.{Next as Waiting}
 use Rattle.wam_machine.specs.declared.terms.Next.TheVariants as waits
 use Rattle.wam_machine.specs.declared.terms.Terms.{Terms}
-use Rattle.wam_machine.specs.Terms.{Saved, Turn, Said, OfCall, OfRight, OfCatch, frame_at, goals_from, goals_at, next_of, turn_of, saved_of, said, built, IsBuilt, IsWaiting, IsKeptTurn, CanBeGoal, AreFrames, IsChoice, AreChoices, AreTerms, KeepsCells, IsGrown}
+use Rattle.wam_machine.specs.Terms.{Saved, Turn, Said, OfCall, OfRight, OfCatch, OfFindall, frame_at, goals_from, goals_at, next_of, turn_of, saved_of, said, built, IsBuilt, IsWaiting, IsKeptTurn, CanBeGoal, AreFrames, IsChoice, AreChoices, AreTerms, KeepsCells, IsGrown}
 use Rattle.wam_machine.proofs.Stacks.{choices-without}
 use Rattle.wam_machine.proofs.Grown.{Grows, has_term-grown, raw-grown, meaning-grown, can-later, grows-back, back_bindings-later}
 
@@ -67,6 +67,7 @@ module _ (texts more : List (List ℕ)) (s u : Shape) (g : Grows texts more s u)
   waiting-later still (waits.ConditionEnd h) w = tt
   waiting-later still (waits.NotEnd h) w = tt
   waiting-later still (waits.CatchEnd h) w = tt
+  waiting-later still (waits.FindallEnd c h) w = has_term-grown texts more s u g c w
 
   pub frames-later : StillGoals texts more s u → (frames : List Frame) (n : ℕ) → AreFrames texts s frames n → AreFrames more u frames n
   frames-later still frames n h i low = let f = h i low in record { lower = f.lower; what = waiting-later still _ f.what }
@@ -76,6 +77,7 @@ module _ (texts more : List (List ℕ)) (s u : Shape) (g : Grows texts more s u)
   next-grown e (waits.ConditionEnd h) w = refl
   next-grown e (waits.NotEnd h) w = refl
   next-grown e (waits.CatchEnd h) w = refl
+  next-grown e (waits.FindallEnd c h) w = ap (λ (t : Tree). FindallEnd t h) (term-grown e c w)
 
   pub goals-later : u.bindings ≡ s.bindings → (frames : List Frame) (n j : ℕ) → AreFrames texts s frames n → j ≤ n → goals_at (term_of more u) frames j ≡ goals_at (term_of texts s) frames j
   unfolding goals_at
@@ -89,6 +91,7 @@ module _ (texts more : List (List ℕ)) (s u : Shape) (g : Grows texts more s u)
   next-under m e (waits.ConditionEnd h) w = refl
   next-under m e (waits.NotEnd h) w = refl
   next-under m e (waits.CatchEnd h) w = refl
+  next-under m e (waits.FindallEnd c h) w = ap (λ (t : Tree). FindallEnd t h) (e c w)
 
   pub goals-under : (m : ℕ → Tree) → ((c : Cell) → HasTerm (length texts) s c → term_of more u c ≡ substituted m (term_of texts s c))
       → (frames : List Frame) (n j : ℕ) → AreFrames texts s frames n → j ≤ n → goals_at (term_of more u) frames j ≡ map (next_under m) (goals_at (term_of texts s) frames j)
@@ -105,6 +108,7 @@ module _ {C : Type 0} (texts more : List (List ℕ)) (s u : Shape) (g : Grows te
   kept_turn-later is.Again h = tt
   kept_turn-later is.NotMark h = tt
   kept_turn-later (is.CatchMark c r) h = (has_term-grown texts more s u g c h.0, has_term-grown texts more s u g r h.1)
+  kept_turn-later (is.FindallMark c found) h = has_term-grown texts more s u g c h
 
   turn-later : (what : Alternative C) → IsKeptTurn texts s what → turn_of (term_of more u) what ≡ turn_of (term_of texts s) what
   turn-later (is.Clauses c) h = ap (λ (t : Tree). OfCall (record { goal = t; procedure = c.procedure; cursor = c.cursor })) (term-grown texts more s u g e c.goal h)
@@ -112,6 +116,7 @@ module _ {C : Type 0} (texts more : List (List ℕ)) (s u : Shape) (g : Grows te
   turn-later is.Again h = refl
   turn-later is.NotMark h = refl
   turn-later (is.CatchMark c r) h = ap₂ (λ (x y : Tree). OfCatch x y) (term-grown texts more s u g e c h.0) (term-grown texts more s u g e r h.1)
+  turn-later (is.FindallMark c found) h = ap (λ (t : Tree). OfFindall t found.items) (term-grown texts more s u g e c h)
 
 saved-parts : {C : Type 0} (a b : Turn C) (gs hs : List Next) (m n : ℕ → Tree) → a ≡ b → gs ≡ hs → m ≡ n
     → ◌≡◌ {A = Saved C} (record { turn = a; goals = gs; bindings = m }) (record { turn = b; goals = hs; bindings = n })

@@ -3,6 +3,7 @@ use Rattle.std.proofs.Common.{◌≡◌, ℕ, zero, suc, ◌-◌, ◌<◌, ◌�
 use Rattle.std.specs.Prelude.{map, Some, None, slice_get, ◌||◌}
 use Rattle.std.proofs.lemmas.List.{map-append}
 use Rattle.std.proofs.lemmas.Option.{slice_get-get_or}
+use Rattle.std.specs.Global.{Vec}
 use Rattle.prolog_terms.specs.Tree.{Tree}
 use Rattle.term_store.specs.declared.cell.Cell.{Cell}
 use Rattle.term_store.specs.Terms.{term_of}
@@ -38,16 +39,20 @@ IsSort turn b d = (is_open turn ≡ b) × (is_catch turn ≡ d)
 mark-sort : {C : Type 0} (tree : Cell → Tree) (what : Alternative C) → what ≡ is.NotMark → IsSort (turn_of tree what) false false
 mark-sort tree what e = (ap (λ (w : Alternative _). is_open (turn_of tree w)) e, ap (λ (w : Alternative _). is_catch (turn_of tree w)) e)
 
+findall-sort : {C : Type 0} (tree : Cell → Tree) (what : Alternative C) (c : Cell) (found : Vec Tree) → what ≡ is.FindallMark c found → IsSort (turn_of tree what) false false
+findall-sort tree what c found e = (ap (λ (w : Alternative _). is_open (turn_of tree w)) e, ap (λ (w : Alternative _). is_catch (turn_of tree w)) e)
+
 catch-sort : {C : Type 0} (tree : Cell → Tree) (what : Alternative C) (c r : Cell) → what ≡ is.CatchMark c r → IsSort (turn_of tree what) false true
 catch-sort tree what c r e = (ap (λ (w : Alternative _). is_open (turn_of tree w)) e, ap (λ (w : Alternative _). is_catch (turn_of tree w)) e)
 
 other-sort : {C : Type 0} (tree : Cell → Tree) (what : Alternative C) → (what ≡ is.NotMark → ⊥) → ((c r : Cell) → what ≡ is.CatchMark c r → ⊥)
-    → IsSort (turn_of tree what) true false
-other-sort tree (is.Clauses c) h k = (refl, refl)
-other-sort tree (is.Right c cut) h k = (refl, refl)
-other-sort tree is.Again h k = (refl, refl)
-other-sort tree is.NotMark h k = absurd (h refl)
-other-sort tree (is.CatchMark c r) h k = absurd (k c r refl)
+    → ((c : Cell) (found : Vec Tree) → what ≡ is.FindallMark c found → ⊥) → IsSort (turn_of tree what) true false
+other-sort tree (is.Clauses c) h k l = (refl, refl)
+other-sort tree (is.Right c cut) h k l = (refl, refl)
+other-sort tree is.Again h k l = (refl, refl)
+other-sort tree is.NotMark h k l = absurd (h refl)
+other-sort tree (is.CatchMark c r) h k l = absurd (k c r refl)
+other-sort tree (is.FindallMark c found) h k l = absurd (l c found refl)
 
 module _ {C : Type 0} (t : Terms C) (items : List (Choice C)) (same : items ≡ t.choices.items) where
   pub top-none : None ≡ slice_get items (length items - 1) → (said t).stack ≡ []
@@ -66,12 +71,15 @@ module _ {C : Type 0} (t : Terms C) (items : List (Choice C)) (same : items ≡ 
   pub top-mark : (c : Choice C) → Some c ≡ slice_get items (length items - 1) → c.what ≡ is.NotMark → HasNewest (said t).stack false × HasCatch (said t).stack false
   top-mark c e m = top c false false e (mark-sort (term_of t.names (back c.mark t.store)) c.what m)
 
+  pub top-findall : (c : Choice C) (a : Cell) (found : Vec Tree) → Some c ≡ slice_get items (length items - 1) → c.what ≡ is.FindallMark a found → HasNewest (said t).stack false × HasCatch (said t).stack false
+  top-findall c a found e m = top c false false e (findall-sort (term_of t.names (back c.mark t.store)) c.what a found m)
+
   pub top-catch : (c : Choice C) (a r : Cell) → Some c ≡ slice_get items (length items - 1) → c.what ≡ is.CatchMark a r → HasNewest (said t).stack false × HasCatch (said t).stack true
   top-catch c a r e m = top c false true e (catch-sort (term_of t.names (back c.mark t.store)) c.what a r m)
 
   pub top-open : (c : Choice C) → Some c ≡ slice_get items (length items - 1) → (c.what ≡ is.NotMark → ⊥) → ((a r : Cell) → c.what ≡ is.CatchMark a r → ⊥)
-      → HasNewest (said t).stack true × HasCatch (said t).stack false
-  top-open c e m k = top c true false e (other-sort (term_of t.names (back c.mark t.store)) c.what m k)
+      → ((a : Cell) (found : Vec Tree) → c.what ≡ is.FindallMark a found → ⊥) → HasNewest (said t).stack true × HasCatch (said t).stack false
+  top-open c e m k l = top c true false e (other-sort (term_of t.names (back c.mark t.store)) c.what m k l)
 
 -- ---- one after another
 

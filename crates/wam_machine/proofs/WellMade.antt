@@ -5,7 +5,7 @@ use Rattle.std.specs.List.{cons_option}
 use Rattle.std.proofs.lemmas.List.Elements.{All-nil, All-cons, All-head, All-tail, All-append, All-take, All-drop}
 use Rattle.prolog_terms.specs.Operators.{Table}
 use Rattle.prolog_terms.specs.Tree.{Tree, Trees, variable, integer, atom, compound, none, more, count}
-use Rattle.prolog_terms.specs.Substitutions.{substituted, renamed, beyond}
+use Rattle.prolog_terms.specs.Substitutions.{substituted, renamed, numbered, beyond}
 use Rattle.prolog_terms.specs.Clauses.{is_named, is_connective, is_body, body_of, call_term}
 use Rattle.prolog_terms.specs.Faults.{two}
 use Rattle.prolog_terms.specs.declared.entry.Clause.{Clause}
@@ -16,12 +16,13 @@ use Rattle.journal_base.specs.Journal.{Journal, number_of, clause_named, added}
 use Rattle.journal_base.specs.Candidates.{candidates}
 use Rattle.journal_base.specs.Keys.{keys}
 use Rattle.term_unifier.specs.Unifier.{unifier}
-use Rattle.term_builtins.specs.Meanings.{Meaning, Holds, Equates, Writes, Puts, Raises}
+use Rattle.term_builtins.specs.Meanings.{Meaning, Holds, Equates, Writes, Puts, Raises, list_tree}
 use Rattle.term_builtins.specs.Table.{builtins, place_in}
-use Rattle.wam_machine.specs.Control.{Control, True, Fail, Cut, Repeat, Both, Either, IfElse, If, Not, Call, Once, Catch, Throw, Halt, HaltWith, Builtin, User, control_of, control_with_none, control_with_one, control_of_either, control_with_two, control_with_three, control_with_more, or_call, first_body, with_added, is_true_atom, builtin_or_user, plain}
+use Rattle.wam_machine.specs.Control.{Control, True, Fail, Cut, Repeat, Both, Either, IfElse, If, Not, Call, Once, Catch, Findall, Throw, Halt, HaltWith, Builtin, User, control_of, control_with_none, control_with_one, control_of_either, control_with_two, control_with_three, control_with_more, or_call, first_body, with_added, is_true_atom, builtin_or_user, plain}
 use Rattle.wam_machine.specs.declared.run.RunEnd.{RunEnd}
 use Rattle.wam_machine.specs.declared.run.RunEnd.TheVariants.{Exhausted, Ball, Spent, Halted}
-use Rattle.wam_machine.specs.Machine.{Next, Do, ConditionEnd, NotEnd, CatchEnd, Alternative, Clauses, Right, Again, NotMark, CatchMark, Choice, Mode, Going, Failing, Raising, State, Setting, Outcome, Goes, Ends, Unfit, no_more, made_all, over, stepping, onwards, pushed, height, next_under, solving, numbering, body_from, entering, leaving, trying, candidate_clauses, looked, called, calling, call_with, raises, running, calling_added, denying, catching, throwing, halting, cut_back, active_catch, recovering, reaching, reached, caught, repeating, performing, doing, going, back_to, taken, failing, raising, move, beginning, CanBeDone, HasBody, CanBeTaken, CanGoBack, IsWellMade, HasBodies, GoalsAreBodies, coming_to, calling_builtin}
+use Rattle.wam_machine.specs.Machine.{Next, Do, ConditionEnd, NotEnd, CatchEnd, FindallEnd, Alternative, Clauses, Right, Again, NotMark, CatchMark, FindallMark, Choice, Mode, Going, Failing, Raising, State, Setting, Outcome, Goes, Ends, Unfit, no_more, made_all, over, stepping, onwards, pushed, height, next_under, solving, numbering, body_from, entering, leaving, trying, candidate_clauses, looked, called, calling, call_with, raises, running, calling_added, denying, catching, gathering, gathered, new_copies, behind_copies, found_at, throwing, halting, cut_back, active_catch, recovering, reaching, reached, caught, repeating, performing, doing, going, back_to, taken, failing, raising, move, beginning, CanBeDone, HasBody, CanBeTaken, CanGoBack, IsWellMade, HasBodies, GoalsAreBodies, coming_to, calling_builtin}
+use Rattle.wam_machine.proofs.FoundAt.{found-back}
 use Rattle.prolog_terms.proofs.Converted.{both_true, first_true, second_true, is_converted}
 
 -- ---- bodies
@@ -55,6 +56,7 @@ HasParts (Not g) = Unit {0}
 HasParts (Call g added) = Unit {0}
 HasParts (Once g) = Unit {0}
 HasParts (Catch g c r) = Unit {0}
+HasParts (Findall t g l) = Unit {0}
 HasParts (Throw b) = Unit {0}
 HasParts Halt = Unit {0}
 HasParts (HaltWith n) = Unit {0}
@@ -80,7 +82,7 @@ one_parts : (f : List ℕ) (a : Tree) → HasParts (control_with_one f a)
 one_parts f a = choose (is_named (codes "call") f) _ _ tt (choose (is_named (codes "once") f) _ _ tt (choose (is_named (codes "\\+") f) _ _ tt (choose (is_named (codes "throw") f) _ _ tt (choose (is_named (codes "halt") f) _ _ tt (plain_parts f (more a none))))))
 
 three_parts : (f : List ℕ) (a b c : Tree) → HasParts (control_with_three f a b c)
-three_parts f a b c = choose (is_named (codes "catch") f) _ _ tt (choose (is_named (codes "call") f) _ _ tt (plain_parts f (more a (more b (more c none)))))
+three_parts f a b c = choose (is_named (codes "catch") f) _ _ tt (choose (is_named (codes "findall") f) _ _ tt (choose (is_named (codes "call") f) _ _ tt (plain_parts f (more a (more b (more c none))))))
 
 more_parts : (f : List ℕ) (a : Tree) (ts : Trees) → HasParts (control_with_more f a ts)
 more_parts f a ts = choose (is_named (codes "call") f && nat_lt (count ts) 8) _ _ tt (plain_parts f (more a ts))
@@ -141,6 +143,7 @@ next_under-done m (Do g cut) h = is_body-substituted m g h
 next_under-done m (ConditionEnd k) h = tt
 next_under-done m (NotEnd k) h = tt
 next_under-done m (CatchEnd k) h = tt
+next_under-done m (FindallEnd t k) h = tt
 
 all_under-done : (m : ℕ → Tree) (ns : List Next) → All CanBeDone ns → All CanBeDone (map (next_under m) ns)
 all_under-done m [] h = All-nil CanBeDone
@@ -246,6 +249,17 @@ catching-makes goal catcher recovery s (Some body) b h = record {
   stack = (pushed-well (CatchMark catcher recovery) s tt h).stack;
 }
 
+gathering-makes : (template goal list : Tree) (s : State) (o : Option Tree) → IfSome o (λ b. IsTrue (is_body b)) → IsWellMade s → Makes (gathering template goal list s o)
+gathering-makes template goal list s None b h = record { goals = h.goals; stack = h.stack }
+gathering-makes template goal list s (Some body) b h = record {
+  goals = first_done body (suc (height s)) (FindallEnd template (suc (height s)) ∷ s.goals) b (All-cons CanBeDone (FindallEnd template (suc (height s))) s.goals tt h.goals);
+  stack = (pushed-well (FindallMark list []) s tt h).stack;
+}
+
+gathered-makes : (list : Tree) (found : List Tree) (s : State) → IsWellMade s → Makes (gathered list found s)
+gathered-makes list found s h =
+    solving-makes [] (record s { fresh = behind_copies s.fresh found }) (unifier list (list_tree (new_copies s.fresh found))) (All-nil CanBeDone) (record { goals = h.goals; stack = h.stack })
+
 throwing-makes : (ball : Tree) (s : State) → IsWellMade s → Makes (throwing ball s)
 throwing-makes (variable n) s h = record { goals = h.goals; stack = h.stack }
 throwing-makes (integer z) s h = record { goals = h.goals; stack = h.stack }
@@ -294,6 +308,7 @@ performing-makes x goal cut (Not g) s b p h = denying-makes g s (body_of g) (is_
 performing-makes x goal cut (Call g added) s b p h = calling_added-makes g added s h
 performing-makes x goal cut (Once g) s b p h = record { goals = first_done (two (codes "->") (call_term g) (atom (codes "true"))) cut s.goals refl h.goals; stack = h.stack }
 performing-makes x goal cut (Catch g c r) s b p h = catching-makes g c r s (body_of g) (is_converted g) h
+performing-makes x goal cut (Findall t g l) s b p h = gathering-makes t g l s (body_of g) (is_converted g) h
 performing-makes x goal cut (Throw t) s b p h = throwing-makes t s h
 performing-makes x goal cut Halt s b p h = over-makes x s (Halted (pos 0))
 performing-makes x goal cut (HaltWith n) s b p h = halting-makes x n s h
@@ -323,6 +338,7 @@ doing-makes x goal cut s (Not g) b p h = performed-makes x goal cut s (Not g) b 
 doing-makes x goal cut s (Call g added) b p h = performed-makes x goal cut s (Call g added) b p h
 doing-makes x goal cut s (Once g) b p h = performed-makes x goal cut s (Once g) b p h
 doing-makes x goal cut s (Catch g c r) b p h = performed-makes x goal cut s (Catch g c r) b p h
+doing-makes x goal cut s (Findall t g l) b p h = performed-makes x goal cut s (Findall t g l) b p h
 doing-makes x goal cut s (Throw t) b p h = performed-makes x goal cut s (Throw t) b p h
 doing-makes x goal cut s Halt b p h = performed-makes x goal cut s Halt b p h
 doing-makes x goal cut s (HaltWith n) b p h = performed-makes x goal cut s (HaltWith n) b p h
@@ -336,6 +352,7 @@ going-makes x s (Do g cut ∷ rest) b d h =
     rw (k.1) (doing-makes x g cut (record s { goals = rest }) k.0 b k.2 (record { goals = All-tail CanBeDone (Do g cut) rest d; stack = h.stack }))
 going-makes x s (ConditionEnd k ∷ rest) b d h = record { goals = All-tail CanBeDone (ConditionEnd k) rest d; stack = All-drop CanGoBack (length s.stack - k) s.stack h.stack }
 going-makes x s (NotEnd k ∷ rest) b d h = record { goals = All-tail CanBeDone (NotEnd k) rest d; stack = All-drop CanGoBack (length s.stack - k) s.stack h.stack }
+going-makes x s (FindallEnd t k ∷ rest) b d h = record { goals = All-tail CanBeDone (FindallEnd t k) rest d; stack = found-back k (numbered t) s.stack h.stack }
 going-makes x s (CatchEnd k ∷ rest) b d h = go (height s == k)
   where
     t : State
@@ -354,6 +371,7 @@ taken-makes x s (Right goal cut) t h = stepping-makes x s (onwards (Do goal cut 
 taken-makes x s Again t h = stepping-makes x s repeating (let k : IsWellMade (pushed Again s) = pushed-well Again s tt h in record { goals = k.goals; stack = k.stack })
 taken-makes x s NotMark t h = h
 taken-makes x s (CatchMark c r) t h = record { goals = h.goals; stack = h.stack }
+taken-makes x s (FindallMark l f) t h = gathered-makes l f s h
 
 failing-makes : (x : Setting) (s : State) (st : List Choice) → All CanGoBack st → Makes (failing x s st)
 failing-makes x s [] h = over-makes x s Exhausted
@@ -371,6 +389,7 @@ reaching-makes ball s below c (Clauses goal rest) g w h = record { goals = h.goa
 reaching-makes ball s below c (Right goal cut) g w h = record { goals = h.goals; stack = w }
 reaching-makes ball s below c Again g w h = record { goals = h.goals; stack = w }
 reaching-makes ball s below c NotMark g w h = record { goals = h.goals; stack = w }
+reaching-makes ball s below c (FindallMark l f) g w h = record { goals = h.goals; stack = w }
 
 reached-makes : (x : Setting) (ball : Tree) (s : State) (st : List Choice) → All CanGoBack st → IsWellMade s → Makes (reached x ball s st)
 reached-makes x ball s [] w h = over-makes x s (Ball ball)

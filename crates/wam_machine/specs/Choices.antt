@@ -1,6 +1,6 @@
 -- What is seen of the stack.
 use Rattle.std.specs.Prelude.{◌≡◌, List, [], Option, Some, None, true, false}
-use Rattle.wam_machine.specs.Terms.{Turn, OfCall, OfRight, OfRepeat, OfNot, OfCatch, Saved, HasNewest, HasCatch}
+use Rattle.wam_machine.specs.Terms.{Turn, OfCall, OfRight, OfRepeat, OfNot, OfCatch, OfFindall, Saved, HasNewest, HasCatch}
 use Rattle.wam_machine.specs.declared.choices.Newest.{Newest}
 use Rattle.wam_machine.specs.declared.choices.Newest.TheVariants.{Nothing, Open, Mark, Catch}
 use Rattle.wam_machine.specs.declared.terms.Call.{Call}
@@ -24,3 +24,5 @@ IsCallOf OfNot None = Unit {0}
 IsCallOf OfNot (Some call) = ⊥
 IsCallOf (OfCatch c r) None = Unit {0}
 IsCallOf (OfCatch c r) (Some call) = ⊥
+IsCallOf (OfFindall l f) None = Unit {0}
+IsCallOf (OfFindall l f) (Some call) = ⊥

@@ -27,6 +27,8 @@ pub data Control : Type 0 where
   Once : (goal : Tree) → Control
   -- a goal; where a ball is raised in it that the catcher unifies with, the recovery is called
   Catch : (goal catcher recovery : Tree) → Control
+  -- a list of copies of a template, one for each answer of a goal
+  Findall : (template goal list : Tree) → Control
   -- a ball is raised
   Throw : (ball : Tree) → Control
   -- the run is ended
@@ -85,6 +87,7 @@ control_with_two f a b =
 abbrev pub control_with_three : List ℕ → Tree → Tree → Tree → Control
 control_with_three f a b c =
     if is_named (codes "catch") f then Catch a b c
+    else if is_named (codes "findall") f then Findall a b c
     else if is_named (codes "call") f then Call a (more b (more c none))
     else plain f (more a (more b (more c none)))
 

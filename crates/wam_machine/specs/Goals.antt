@@ -13,7 +13,7 @@ use Rattle.wam_machine.specs.Spine.{Part, Leaf, Joint, is_plain_goal}
 use Rattle.wam_machine.specs.Machine.{State, calling_added, raises, running, call_with}
 use Rattle.wam_machine.specs.Terms.{IsGoal, IsBuilt, built}
 use Rattle.wam_machine.specs.declared.control.Control.{Control}
-use Rattle.wam_machine.specs.declared.control.Control.TheVariants.{True, Fail, Cut, Repeat, Both, Either, IfElse, If, Not, Call, Once, Catch, Throw, Halt, HaltWith, Builtin, User}
+use Rattle.wam_machine.specs.declared.control.Control.TheVariants.{True, Fail, Cut, Repeat, Both, Either, IfElse, If, Not, Call, Once, Catch, Findall, Throw, Halt, HaltWith, Builtin, User}
 use Rattle.wam_machine.specs.declared.bodies.Kind.{Kind}
 use Rattle.wam_machine.specs.declared.bodies.Kind.TheVariants as kind
 use Rattle.wam_machine.specs.declared.bodies.Part.{Part as Met}
@@ -38,6 +38,7 @@ control_in tree (Not g) = spec.Not (tree g)
 control_in tree (Call g added) = spec.Call (tree g) (trees_of tree added.items)
 control_in tree (Once g) = spec.Once (tree g)
 control_in tree (Catch g c r) = spec.Catch (tree g) (tree c) (tree r)
+control_in tree (Findall t g l) = spec.Findall (tree t) (tree g) (tree l)
 control_in tree (Throw b) = spec.Throw (tree b)
 control_in tree Halt = spec.Halt
 control_in tree (HaltWith n) = spec.HaltWith (tree n)
@@ -58,6 +59,7 @@ AreAmong P (Not g) = P g
 AreAmong P (Call g added) = P g × All P added.items × (length added.items < 8)
 AreAmong P (Once g) = P g
 AreAmong P (Catch g c r) = P g × P c × P r
+AreAmong P (Findall t g l) = P t × P g × P l
 AreAmong P (Throw b) = P b
 AreAmong P Halt = Unit {0}
 AreAmong P (HaltWith n) = P n
@@ -78,6 +80,7 @@ AreGoals P (Not g) = Unit {0}
 AreGoals P (Call g added) = Unit {0}
 AreGoals P (Once g) = Unit {0}
 AreGoals P (Catch g c r) = Unit {0}
+AreGoals P (Findall t g l) = Unit {0}
 AreGoals P (Throw b) = Unit {0}
 AreGoals P Halt = Unit {0}
 AreGoals P (HaltWith n) = Unit {0}
@@ -125,6 +128,7 @@ IsConstruct (Not g) = Unit {0}
 IsConstruct (Call g added) = Unit {0}
 IsConstruct (Once g) = Unit {0}
 IsConstruct (Catch g c r) = Unit {0}
+IsConstruct (Findall t g l) = Unit {0}
 IsConstruct (Throw b) = Unit {0}
 IsConstruct Halt = ⊥
 IsConstruct (HaltWith n) = ⊥
@@ -145,6 +149,7 @@ IsSimple (Not g) = Unit {0}
 IsSimple (Call g added) = Unit {0}
 IsSimple (Once g) = Unit {0}
 IsSimple (Catch g c r) = Unit {0}
+IsSimple (Findall t g l) = Unit {0}
 IsSimple (Throw b) = Unit {0}
 IsSimple Halt = Unit {0}
 IsSimple (HaltWith n) = Unit {0}

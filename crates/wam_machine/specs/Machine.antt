@@ -23,11 +23,11 @@ use Rattle.journal_base.specs.Candidates.{candidates}
 use Rattle.journal_base.specs.Calls.{Goal}
 use Rattle.journal_base.specs.View.{entries_by}
 use Rattle.term_unifier.specs.Unifier.{unifier}
-use Rattle.term_builtins.specs.Meanings.{Meaning, Holds, Equates, Writes, Puts, Raises, meaning}
+use Rattle.term_builtins.specs.Meanings.{Meaning, Holds, Equates, Writes, Puts, Raises, meaning, list_tree}
 use Rattle.term_builtins.specs.Table.{builtins, indicator}
 use Rattle.prolog_writer.specs.Pieces.{written}
 use Rattle.term_builtins.specs.Answers.{row_at}
-use Rattle.wam_machine.specs.Control.{Control, True, Fail, Cut, Repeat, Both, Either, IfElse, If, Not, Call, Once, Catch, Throw, Halt, HaltWith, Builtin, User, control_of, first_body, with_added, body_goals}
+use Rattle.wam_machine.specs.Control.{Control, True, Fail, Cut, Repeat, Both, Either, IfElse, If, Not, Call, Once, Catch, Findall, Throw, Halt, HaltWith, Builtin, User, control_of, first_body, with_added, body_goals}
 use Rattle.wam_machine.specs.declared.run.Event.{Event}
 use Rattle.wam_machine.specs.declared.run.Event.TheVariants.{Answer, Wrote}
 use Rattle.wam_machine.specs.declared.run.RunEnd.{RunEnd}
@@ -45,6 +45,8 @@ pub data Next : Type 0 where
   NotEnd : (height : ℕ) → Next
   -- the end of the goal of a `catch`, and the height of the stack with the mark of the `catch` on it
   CatchEnd : (height : ℕ) → Next
+  -- the end of the goal of a `findall`: its template, and the height of the stack with the mark of the `findall` on it
+  FindallEnd : (template : Tree) (height : ℕ) → Next
 
 pub data Alternative : Type 0 where
   -- the clauses that are left of a call
@@ -57,6 +59,9 @@ pub data Alternative : Type 0 where
   NotMark : Alternative
   -- The mark of a `catch`, which is no alternative either: a failure that reaches it goes further.
   CatchMark : (catcher recovery : Tree) → Alternative
+  -- The mark of a `findall`, with the copies of its template that were found so far, each with variables numbered from 0: a failure that
+  -- reaches it goes on behind the `findall`, whose list is made one with theirs.
+  FindallMark : (list : Tree) (found : List Tree) → Alternative
 
 -- an alternative, or a mark, with the goals that come after it and what each variable stood for at its moment
 pub record Choice : Type 0 where
@@ -185,6 +190,7 @@ next_under m (Do goal cut) = Do (substituted m goal) cut
 next_under m (ConditionEnd h) = ConditionEnd h
 next_under m (NotEnd h) = NotEnd h
 next_under m (CatchEnd h) = CatchEnd h
+next_under m (FindallEnd t h) = FindallEnd (substituted m t) h
 
 abbrev pub bound_further : (ℕ → Tree) → State → State
 bound_further m s = record s { goals = map (next_under m) s.goals; bindings = λ v. substituted m (s.bindings v) }
@@ -273,6 +279,39 @@ abbrev pub catching : Tree → Tree → Tree → State → Option Tree → Outco
 catching goal catcher recovery s None = raises (not_callable goal) (record { name = codes "catch"; arity = 3 }) s
 catching goal catcher recovery s (Some body) = onwards (Do body (suc (height s)) ∷ CatchEnd (suc (height s)) ∷ []) (pushed (CatchMark catcher recovery) s)
 
+-- the goal of a `findall` as a body, above a mark with nothing found yet
+abbrev pub gathering : Tree → Tree → Tree → State → Option Tree → Outcome
+gathering template goal list s None = raises (not_callable goal) (record { name = codes "findall"; arity = 3 }) s
+gathering template goal list s (Some body) = onwards (Do body (suc (height s)) ∷ FindallEnd template (suc (height s)) ∷ []) (pushed (FindallMark list []) s)
+
+-- one more copy is found
+abbrev pub with_found : Tree → Alternative → Alternative
+with_found copy (FindallMark list found) = FindallMark list (found ++ copy ∷ [])
+with_found copy (Clauses goal rest) = Clauses goal rest
+with_found copy (Right goal cut) = Right goal cut
+with_found copy Again = Again
+with_found copy NotMark = NotMark
+with_found copy (CatchMark catcher recovery) = CatchMark catcher recovery
+
+-- the same at the mark with which the stack has this height
+abbrev pub found_at : ℕ → Tree → List Choice → List Choice
+found_at h copy [] = []
+found_at h copy (c ∷ below) = if suc (length below) == h then record c { what = with_found copy c.what } ∷ below else c ∷ found_at h copy below
+
+-- the copies with new variables, from a number on
+abbrev pub new_copies : ℕ → List Tree → List Tree
+new_copies from [] = []
+new_copies from (copy ∷ copies) = renamed from copy ∷ new_copies (from + beyond copy) copies
+
+-- the number of the variable behind theirs
+abbrev pub behind_copies : ℕ → List Tree → ℕ
+behind_copies from [] = from
+behind_copies from (copy ∷ copies) = behind_copies (from + beyond copy) copies
+
+-- the list is made one with that of the copies
+abbrev pub gathered : Tree → List Tree → State → Outcome
+gathered list found s = equating list (list_tree (new_copies s.fresh found)) [] (record s { fresh = behind_copies s.fresh found })
+
 abbrev pub raise_it : Tree → State → Outcome
 raise_it ball s = Goes (record s { mode = Raising ball })
 
@@ -335,6 +374,7 @@ performing x goal cut (Not g) s = denying g s (body_of g)
 performing x goal cut (Call g added) s = calling_added g added s
 performing x goal cut (Once g) s = onwards (Do (two (codes "->") (call_term g) (atom (codes "true"))) cut ∷ []) s
 performing x goal cut (Catch g c r) s = catching g c r s (body_of g)
+performing x goal cut (Findall t g l) s = gathering t g l s (body_of g)
 performing x goal cut (Throw b) s = throwing b s
 performing x goal cut Halt s = over x s (Halted (pos 0))
 performing x goal cut (HaltWith n) s = halting x n s
@@ -355,6 +395,7 @@ doing x goal cut s (Not g) = stepping x s (performing x goal cut (Not g))
 doing x goal cut s (Call g added) = stepping x s (performing x goal cut (Call g added))
 doing x goal cut s (Once g) = stepping x s (performing x goal cut (Once g))
 doing x goal cut s (Catch g c r) = stepping x s (performing x goal cut (Catch g c r))
+doing x goal cut s (Findall t g l) = stepping x s (performing x goal cut (Findall t g l))
 doing x goal cut s (Throw b) = stepping x s (performing x goal cut (Throw b))
 doing x goal cut s Halt = stepping x s (performing x goal cut Halt)
 doing x goal cut s (HaltWith n) = stepping x s (performing x goal cut (HaltWith n))
@@ -371,6 +412,7 @@ is_alternative (Right goal cut) = true
 is_alternative Again = true
 is_alternative NotMark = false
 is_alternative (CatchMark c r) = false
+is_alternative (FindallMark l f) = false
 
 -- the value of the shown term, with its variables numbered from 0 by first occurrence; open where an alternative is left
 abbrev pub answer : Setting → State → Event
@@ -389,6 +431,8 @@ going x s (ConditionEnd h ∷ rest) = Goes (cut_back h (record s { goals = rest 
 -- the goal of a `\+` has an answer: its mark is taken away too
 going x s (NotEnd h ∷ rest) = fails (cut_back h (record s { goals = rest }))
 going x s (CatchEnd h ∷ rest) = Goes (leaving_catch h (record s { goals = rest }))
+-- the goal of a `findall` has an answer: a copy of the template is found, and on as after a failure
+going x s (FindallEnd t h ∷ rest) = fails (record s { goals = rest; stack = found_at h (numbered t) s.stack })
 
 -- an alternative is taken, by a step; a mark is passed without one
 abbrev pub taken : Setting → State → Alternative → Outcome
@@ -397,6 +441,7 @@ taken x s (Right goal cut) = stepping x s (onwards (Do goal cut ∷ []))
 taken x s Again = stepping x s repeating
 taken x s NotMark = Goes s
 taken x s (CatchMark c r) = fails s
+taken x s (FindallMark l f) = gathered l f s
 
 -- back in the state of a choice's moment, but for what was counted
 abbrev pub back_to : State → Choice → List Choice → State
@@ -414,6 +459,7 @@ active_catch (Do goal cut ∷ rest) = active_catch rest
 active_catch (ConditionEnd h ∷ rest) = active_catch rest
 active_catch (NotEnd h ∷ rest) = active_catch rest
 active_catch (CatchEnd h ∷ rest) = Some h
+active_catch (FindallEnd t h ∷ rest) = active_catch rest
 
 -- the recovery is called where the ball and the catcher are made one, and else the ball goes further
 abbrev pub recovering : Tree → Tree → State → Option (ℕ → Tree) → Outcome
@@ -432,6 +478,7 @@ reaching ball s below c (Clauses goal rest) = Goes (record s { stack = below })
 reaching ball s below c (Right goal cut) = Goes (record s { stack = below })
 reaching ball s below c Again = Goes (record s { stack = below })
 reaching ball s below c NotMark = Goes (record s { stack = below })
+reaching ball s below c (FindallMark l f) = Goes (record s { stack = below })
 
 abbrev pub reached : Setting → Tree → State → List Choice → Outcome
 reached x ball s [] = over x s (Ball ball)
@@ -505,6 +552,7 @@ CanBeDone (Do goal cut) = IsTrue (is_body goal)
 CanBeDone (ConditionEnd h) = Unit {0}
 CanBeDone (NotEnd h) = Unit {0}
 CanBeDone (CatchEnd h) = Unit {0}
+CanBeDone (FindallEnd t h) = Unit {0}
 
 abbrev pub HasBody : Clause → Type 0
 HasBody c = IsTrue (is_body c.body)
@@ -515,6 +563,7 @@ CanBeTaken (Right goal cut) = IsTrue (is_body goal)
 CanBeTaken Again = Unit {0}
 CanBeTaken NotMark = Unit {0}
 CanBeTaken (CatchMark c r) = Unit {0}
+CanBeTaken (FindallMark l f) = Unit {0}
 
 pub record CanGoBack (c : Choice) : Type 0 where
   pub what : CanBeTaken c.what
@@ -557,6 +606,7 @@ is_mark (Clauses goal rest) = false
 is_mark (Right goal cut) = false
 is_mark Again = false
 is_mark NotMark = false
+is_mark (FindallMark l f) = false
 
 -- the mark of a `catch` stands there, and the stack has this height with the mark on it
 abbrev pub HasMark : ℕ → List Choice → Type 0

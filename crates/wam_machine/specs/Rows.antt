@@ -121,6 +121,10 @@ equal t u = two (codes "=") t u
 abbrev pub catches : Tree → Tree → Tree → Tree
 catches g k r = compound (codes "catch") (more g (more k (more r none)))
 
+-- findall(T, G, L)
+abbrev pub finds : Tree → Tree → Tree → Tree
+finds t g l = compound (codes "findall") (more t (more g (more l none)))
+
 abbrev pub throws : Tree → Tree
 throws t = one (codes "throw") t
 
@@ -130,9 +134,12 @@ halts = atom (codes "halt")
 abbrev pub halts_with : Tree → Tree
 halts_with t = one (codes "halt") t
 
--- the name and arity of `catch`, of `throw`, and of `halt` with a number
+-- the name and arity of `catch`, of `findall`, of `throw`, and of `halt` with a number
 abbrev pub catch_three : Indicator
 catch_three = record { name = codes "catch"; arity = 3 }
+
+abbrev pub findall_three : Indicator
+findall_three = record { name = codes "findall"; arity = 3 }
 
 abbrev pub throw_one : Indicator
 throw_one = record { name = codes "throw"; arity = 1 }
@@ -170,6 +177,13 @@ copies (suc n) t = t ∷ copies n t
 -- X = 1 ; X = 2
 abbrev pub one_or_two : Tree
 one_or_two = or (equal x (number 1)) (equal x (number 2))
+
+abbrev pub y : Tree
+y = variable 1
+
+-- Y = 1 ; Y = 2
+abbrev pub either_y : Tree
+either_y = or (equal y (number 1)) (equal y (number 2))
 
 abbrev pub called : ℕ → Indicator
 called n = record { name = codes "call"; arity = n }
@@ -394,6 +408,46 @@ pub record HasRows : Type 0 where
   pub catch_goes_on : Alone (both one_or_two (catches (throws a) a truth)) (one_and_more ∷ is_two ∷ []) 12 Exhausted
   -- catch(throw(1), X, true)
   pub catch_number : Alone (catches (throws (number 1)) x truth) (is_one ∷ []) 4 Exhausted
+  -- ---- lists of what is found
+  -- findall(Y, fail, X)
+  pub found_none : Alone (finds y failure x) (closed (nil ∷ []) ∷ []) 2 Exhausted
+  -- findall(Y, (Y = 1 ; Y = 2), X): its own step, and those of the goal
+  pub found_two : Alone (finds y either_y x) (closed ((list_of (number 1 ∷ number 2 ∷ [])) ∷ []) ∷ []) 5 Exhausted
+  -- the same within its steps, and with one less
+  pub found_two_exactly : Gives [] 5 (finds y either_y x) (x ∷ []) [] (closed ((list_of (number 1 ∷ number 2 ∷ [])) ∷ []) ∷ []) 5 Exhausted
+  pub found_two_spent : Gives [] 4 (finds y either_y x) (x ∷ []) [] [] 4 (Spent 4)
+  -- findall(Y, findall(Z, (Z = 1 ; Z = 2), Y), X)
+  pub found_nested : Alone (finds y (finds (variable 2) (or (equal (variable 2) (number 1)) (equal (variable 2) (number 2))) y) x) (closed (list_of ((list_of (number 1 ∷ number 2 ∷ [])) ∷ []) ∷ []) ∷ []) 6 Exhausted
+  -- each copy has variables of its own: findall(Y, (true ; true), X), findall(f(Y,Y), (true ; true), X)
+  pub found_free : Alone (finds y (or truth truth) x) (closed (list_of (variable 0 ∷ variable 1 ∷ []) ∷ []) ∷ []) 5 Exhausted
+  pub found_free_twice : Alone (finds (two (codes "f") y y) (or truth truth) x) (closed (list_of (two (codes "f") (variable 0) (variable 0) ∷ two (codes "f") (variable 1) (variable 1) ∷ []) ∷ []) ∷ []) 5 Exhausted
+  -- and none of the template's: findall(Y, true, X), Y = a
+  pub found_copy : Gives [] 100 (both (finds y truth x) (equal y a)) (x ∷ y ∷ []) [] (closed (list_of (variable 0 ∷ []) ∷ a ∷ []) ∷ []) 3 Exhausted
+  -- the copy is of what the template stands for by then, and no binding of the goal is left: findall(X, X = 1, Y)
+  pub found_undone : Gives [] 100 (finds x (equal x (number 1)) y) (x ∷ y ∷ []) [] (closed (variable 0 ∷ list_of (number 1 ∷ []) ∷ []) ∷ []) 2 Exhausted
+  -- inside a `\+`: \+ findall(Y, fail, [a]), \+ findall(Y, fail, [])
+  pub found_in_denied : Alone (denied (finds y failure (list_of (a ∷ [])))) (is_free ∷ []) 3 Exhausted
+  pub found_denied : Alone (denied (finds y failure nil)) [] 3 Exhausted
+  -- a `\+` inside: findall(Y, \+ (Y = 1 ; Y = 2), X)
+  pub denied_in_found : Alone (finds y (denied either_y) x) (closed (nil ∷ []) ∷ []) 4 Exhausted
+  -- a ball from inside: findall(Y, (Y = 1 ; throw(a)), X), and in a `catch`; the mark is gone behind it
+  pub found_ball : Alone (finds y (or (equal y (number 1)) (throws a)) x) [] 5 (Ball a)
+  pub found_caught : Alone (catches (finds y (or (equal y (number 1)) (throws a)) x) (variable 2) truth) (is_free ∷ []) 8 Exhausted
+  -- a `catch` inside: findall(Y, catch((Y = 1 ; throw(a)), a, Y = 2), X)
+  pub caught_in_found : Alone (finds y (catches (or (equal y (number 1)) (throws a)) a (equal y (number 2))) x) (closed ((list_of (number 1 ∷ number 2 ∷ [])) ∷ []) ∷ []) 8 Exhausted
+  -- a cut in it is local: findall(Y, ((Y = 1 ; Y = 2), !), X), (X = 1 ; X = 2), findall(Y, (!, fail ; true), [])
+  pub cut_in_found : Alone (finds y (both either_y cut) x) (closed (list_of (number 1 ∷ []) ∷ []) ∷ []) 4 Exhausted
+  pub cut_found : Alone (both one_or_two (finds y (or (both cut failure) truth) nil)) (one_and_more ∷ is_two ∷ []) 12 Exhausted
+  -- behind it its mark is gone: findall(Y, (Y = 1 ; Y = 2), Z), (X = 1 ; X = 2)
+  pub found_closed : Alone (both (finds y either_y (variable 2)) one_or_two) (one_and_more ∷ is_two ∷ []) 9 Exhausted
+  -- the list may be bound: findall(Y, (Y = 1 ; Y = 2), [1,X]), and to one of another length: findall(Y, (Y = 1 ; Y = 2), [X])
+  pub found_bound : Alone (finds y either_y (list_of (number 1 ∷ x ∷ []))) (is_two ∷ []) 5 Exhausted
+  pub found_other_length : Alone (finds y either_y (list_of (x ∷ []))) [] 5 Exhausted
+  -- or no list: findall(Y, true, a)
+  pub found_no_list : Alone (finds y truth a) [] 2 Exhausted
+  -- findall(Y, 1, X); a variable's body is call(Z): findall(Y, Z, X)
+  pub found_integer : Alone (finds y (number 1) x) [] 1 (uncallable (number 1) findall_three)
+  pub found_unbound : Alone (finds y (variable 2) x) [] 2 (Ball (fault_tree Instantiation (called 1)))
   -- ---- the end of a run
   -- (X = 1 ; X = 2), halt
   pub halted : Alone (both one_or_two halts) [] 3 (Halted (pos 0))

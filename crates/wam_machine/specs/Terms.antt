@@ -10,7 +10,7 @@ use Rattle.term_store.specs.Terms.{raw, meaning, term_of, HasTerm, AreNamed}
 use Rattle.term_store.specs.Later.{back, CanGoBack, AreDistinct, AreLonger}
 use Rattle.term_store.specs.declared.cell.Cell.{Cell}
 use Rattle.term_unifier.specs.Unifier.{unifier}
-use Rattle.wam_machine.specs.Machine.{Next, Do, ConditionEnd, NotEnd, CatchEnd, next_under, body_from}
+use Rattle.wam_machine.specs.Machine.{Next, Do, ConditionEnd, NotEnd, CatchEnd, FindallEnd, next_under, body_from}
 use Rattle.wam_machine.specs.declared.terms.Alternative.{Alternative}
 use Rattle.wam_machine.specs.declared.terms.Alternative.TheVariants as is
 use Rattle.wam_machine.specs.declared.terms.Call.{Call}
@@ -40,6 +40,8 @@ pub data Turn (C : Type 0) : Type 0 where
   OfNot : Turn C
   -- with a ball that the catcher takes; a failure goes further
   OfCatch : (catcher recovery : Tree) → Turn C
+  -- behind a `findall`, whose list is made one with that of the copies that were found, each with variables numbered from 0
+  OfFindall : (list : Tree) (found : List Tree) → Turn C
 
 -- a moment that may be gone back to: how, the goals that come after that, and what each variable stood for
 pub record Saved (C : Type 0) : Type 0 where
@@ -67,6 +69,7 @@ next_of tree (waits.Do c h) = Do (tree c) h
 next_of tree (waits.ConditionEnd h) = ConditionEnd h
 next_of tree (waits.NotEnd h) = NotEnd h
 next_of tree (waits.CatchEnd h) = CatchEnd h
+next_of tree (waits.FindallEnd c h) = FindallEnd (tree c) h
 
 abbrev pub frame_at : List Frame → ℕ → Frame
 frame_at frames i = slice_index_or frames i (record { what = waits.NotEnd 0; next = 0 })
@@ -89,6 +92,7 @@ turn_of tree (is.Right c h) = OfRight (tree c) h
 turn_of tree is.Again = OfRepeat
 turn_of tree is.NotMark = OfNot
 turn_of tree (is.CatchMark c r) = OfCatch (tree c) (tree r)
+turn_of tree (is.FindallMark c found) = OfFindall (tree c) found.items
 
 -- what may be gone back to, as it was at its moment
 abbrev pub saved_of : {C : Type 0} → List (List ℕ) → Shape → List Frame → Choice C → Saved C
@@ -125,12 +129,13 @@ pub record IsGoal {C : Type 0} (t : Terms C) (c : Cell) : Type 0 where
 abbrev pub next_now : {C : Type 0} → Terms C → Waiting → Next
 next_now t n = next_of (built t) n
 
--- its goal can be done
+-- its goal can be done, or its template has a term
 abbrev pub IsNext : {C : Type 0} → Terms C → Waiting → Type 0
 IsNext t (waits.Do c h) = IsGoal t c
 IsNext t (waits.ConditionEnd h) = Unit {0}
 IsNext t (waits.NotEnd h) = Unit {0}
 IsNext t (waits.CatchEnd h) = Unit {0}
+IsNext t (waits.FindallEnd c h) = IsBuilt t c
 
 -- a call that was just looked up, or taken up again: its moment is now
 abbrev pub call_now : {C : Type 0} → Terms C → Call C → Left C
@@ -150,6 +155,7 @@ IsTurn t (is.Right c h) = IsGoal t c
 IsTurn t is.Again = Unit {0}
 IsTurn t is.NotMark = Unit {0}
 IsTurn t (is.CatchMark c r) = IsBuilt t c × IsBuilt t r
+IsTurn t (is.FindallMark c found) = IsBuilt t c
 
 -- one more moment may be saved without taking memory
 unfoldable pub HasPlace : {C : Type 0} → Terms C → Type 0
@@ -164,6 +170,7 @@ is_open (OfRight g h) = true
 is_open OfRepeat = true
 is_open OfNot = false
 is_open (OfCatch c r) = false
+is_open (OfFindall l f) = false
 
 -- an alternative is left
 abbrev pub is_any_open : {C : Type 0} → List (Saved C) → Bool
@@ -176,6 +183,7 @@ call_in (OfRight g h) = None
 call_in OfRepeat = None
 call_in OfNot = None
 call_in (OfCatch c r) = None
+call_in (OfFindall l f) = None
 
 -- the calls with clauses left
 abbrev pub calls_in : {C : Type 0} → List (Saved C) → List (Left C)
@@ -192,6 +200,7 @@ IsWaiting texts shape (waits.Do c h) = CanBeGoal texts shape c
 IsWaiting texts shape (waits.ConditionEnd h) = Unit {0}
 IsWaiting texts shape (waits.NotEnd h) = Unit {0}
 IsWaiting texts shape (waits.CatchEnd h) = Unit {0}
+IsWaiting texts shape (waits.FindallEnd c h) = HasTerm (length texts) shape c
 
 pub record IsFrame (texts : List (List ℕ)) (shape : Shape) (i : ℕ) (f : Frame) : Type 0 where
   pub lower : f.next ≤ i
@@ -207,6 +216,7 @@ IsKeptTurn texts shape (is.Right c h) = CanBeGoal texts shape c
 IsKeptTurn texts shape is.Again = Unit {0}
 IsKeptTurn texts shape is.NotMark = Unit {0}
 IsKeptTurn texts shape (is.CatchMark c r) = HasTerm (length texts) shape c × HasTerm (length texts) shape r
+IsKeptTurn texts shape (is.FindallMark c found) = HasTerm (length texts) shape c
 
 -- it can be gone back to, with its goal and the goals after it
 pub record IsChoice {C : Type 0} (texts : List (List ℕ)) (shape : Shape) (frames : List Frame) (c : Choice C) : Type 0 where
@@ -280,6 +290,7 @@ is_catch (OfRight g h) = false
 is_catch OfRepeat = false
 is_catch OfNot = false
 is_catch (OfCatch c r) = true
+is_catch (OfFindall l f) = false
 
 -- whether the newest moment is the mark of a `catch`
 abbrev pub HasCatch : {C : Type 0} → List (Saved C) → Bool → Type 0
@@ -288,3 +299,25 @@ HasCatch {C} stack b = (below : List (Saved C)) × ((s : Saved C) × ((stack ≡
 -- how the newest moment would be gone back to
 abbrev pub HasNewest : {C : Type 0} → List (Saved C) → Bool → Type 0
 HasNewest {C} stack b = (below : List (Saved C)) × ((s : Saved C) × ((stack ≡ below ++ s ∷ []) × (is_open s.turn ≡ b)))
+
+-- ---- copies that are found
+
+-- one more copy is found
+abbrev pub turn_with : {C : Type 0} → Tree → Turn C → Turn C
+turn_with copy (OfFindall list found) = OfFindall list (found ++ copy ∷ [])
+turn_with copy (OfCall c) = OfCall c
+turn_with copy (OfRight g h) = OfRight g h
+turn_with copy OfRepeat = OfRepeat
+turn_with copy OfNot = OfNot
+turn_with copy (OfCatch c r) = OfCatch c r
+
+-- the same at one place of the stack
+abbrev pub found_from : {C : Type 0} → ℕ → Tree → List (Saved C) → List (Saved C)
+found_from k copy [] = []
+found_from zero copy (s ∷ ss) = record s { turn = turn_with copy s.turn } ∷ ss
+found_from (suc k) copy (s ∷ ss) = s ∷ found_from k copy ss
+
+-- the same at the mark with which the stack has this height
+abbrev pub found_in : {C : Type 0} → ℕ → Tree → List (Saved C) → List (Saved C)
+found_in zero copy ss = ss
+found_in (suc k) copy ss = found_from k copy ss

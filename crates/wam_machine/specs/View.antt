@@ -11,10 +11,10 @@ use Rattle.journal_base.specs.Looks.{most_raised, scans_of, kept_of, wants_of}
 use Rattle.journal_base.specs.View.{View, IsSound, Out, none_out, opened}
 use Rattle.journal_base.specs.declared.cause.How.{How}
 use Rattle.journal_base.specs.declared.tally.Tally.{Tally}
-use Rattle.wam_machine.specs.Terms.{Left, Turn, OfCall, OfRight, OfRepeat, OfNot, OfCatch, Saved, Said, AreTerms, said, calls_in}
+use Rattle.wam_machine.specs.Terms.{Left, Turn, OfCall, OfRight, OfRepeat, OfNot, OfCatch, OfFindall, Saved, Said, AreTerms, said, calls_in}
 use Rattle.wam_machine.specs.Cursors.{Begins, goal_of, part, clauses_left, visits_left, AreNamed}
 use Rattle.wam_machine.specs.Machine as spec
-use Rattle.wam_machine.specs.Machine.{State, Setting, Outcome, Goes, Ends, Look, Next, Do, Clauses, Right, Again, NotMark, CatchMark, Going, Failing, Raising, move, goal_move, trying, onwards, repeating, fails, made_all, Report, Runs, beginning, shown_list, newest}
+use Rattle.wam_machine.specs.Machine.{State, Setting, Outcome, Goes, Ends, Look, Next, Do, Clauses, Right, Again, NotMark, CatchMark, FindallMark, Going, Failing, Raising, move, goal_move, trying, onwards, repeating, fails, gathered, made_all, Report, Runs, beginning, shown_list, newest}
 use Rattle.wam_machine.specs.Control.{control_of, first_body}
 use Rattle.wam_machine.specs.Runs.{IsFairLook, allowances}
 use Rattle.wam_machine.specs.declared.run.Event.{Event}
@@ -42,6 +42,7 @@ alternative_of rest at j (OfRight goal cut) = Right goal cut
 alternative_of rest at j OfRepeat = Again
 alternative_of rest at j OfNot = NotMark
 alternative_of rest at j (OfCatch c r) = CatchMark c r
+alternative_of rest at j (OfFindall l f) = FindallMark l f
 
 -- what may be gone back to
 abbrev pub choice_of : {C : Type 0} → (C → Asked → Journal → List ℕ) → (C → ℕ) → Journal → Saved C → spec.Choice
@@ -206,6 +207,7 @@ resuming (Right goal cut) s = onwards (Do goal cut ∷ []) s
 resuming Again s = repeating s
 resuming NotMark s = Goes s
 resuming (CatchMark c r) s = fails s
+resuming (FindallMark l f) s = gathered l f s
 
 -- the calls with clauses left of a turn: one at most
 abbrev pub turn_calls : {C : Type 0} → Turn C → List (Left C)
@@ -214,6 +216,7 @@ turn_calls (OfRight goal cut) = []
 turn_calls OfRepeat = []
 turn_calls OfNot = []
 turn_calls (OfCatch c r) = []
+turn_calls (OfFindall l f) = []
 
 -- the machine goes on with a turn, over a journal
 pub record Resumes {C : Type 0} (rest : C → Asked → Journal → List ℕ) (may : C → Asked → Journal → ℕ) (at : C → ℕ) (ahead : C → ℕ) (j : Journal) (turn : Turn C) (old new : Machine C) : Type 0 where

@@ -1,11 +1,11 @@
 // The stack: the moments that may be gone back to.
-ghost use Rattle.std.specs.Prelude.{◌≡◌, ℕ, ◌≤◌, ◌++◌, ◌∷◌, [], OnOk, MatchOption, Option, None, Some, length, true, false};
-ghost use Rattle.wam_machine.specs.Terms.{AreTerms, IsTurn, HasPlace, KeepsCells, HasNewest, Saved, said, built, saved_now, turn_of, is_open, is_any_open};
+ghost use Rattle.std.specs.Prelude.{◌≡◌, ℕ, ◌≤◌, ◌++◌, ◌∷◌, [], OnOk, OnErr, MatchOption, Option, None, Some, length, true, false};
+ghost use Rattle.wam_machine.specs.Terms.{AreTerms, IsTurn, HasPlace, KeepsCells, HasNewest, Saved, found_in, said, built, saved_now, turn_of, is_open, is_any_open};
 ghost use Rattle.prolog_terms.specs.Tree.{Tree};
 ghost use Rattle.wam_machine.specs.Choices.{IsCallOf, IsNewest};
 
 use crate::terms::{Alternative, Call, Choice, Terms};
-use prolog_terms::Want;
+use prolog_terms::{Term, Want};
 use term_store::Cell;
 
 /// What the newest moment that may be gone back to is.
@@ -14,7 +14,7 @@ pub(crate) enum Newest {
     Nothing,
     /// An alternative.
     Open,
-    /// The mark of a `\+`.
+    /// The mark of a `\+`, or of a `findall`.
     Mark,
     /// The mark of a `catch`.
     Catch,
@@ -28,6 +28,7 @@ pub(crate) fn see_newest<C>(terms: &Terms<C>) -> Newest
         None => Newest::Nothing,
         Some(choice) => match &choice.what {
             Alternative::NotMark => Newest::Mark,
+            Alternative::FindallMark(_, _) => Newest::Mark,
             Alternative::CatchMark(_, _) => Newest::Catch,
             _ => Newest::Open,
         },
@@ -134,7 +135,24 @@ pub(crate) fn drop_newest<C>(terms: &mut Terms<C>) -> Option<Call<C>>
         Alternative::Again => None,
         Alternative::NotMark => None,
         Alternative::CatchMark(_, _) => None,
+        Alternative::FindallMark(_, _found) => None,
     }
+}
+
+/// Adds a copy to those that the mark of a `findall` keeps, with which the stack has this height.
+pub(crate) fn add_found<C>(terms: &mut Terms<C>, height: usize, copy: Term) -> Result<(), Want>
+    requires terms { AreTerms terms.old }
+    ensures terms { AreTerms terms.new }
+    ensures said { OnOk result (said terms.new ≡ record (said terms.old) { stack = found_in height copy (said terms.old).stack }) }
+    ensures err { OnErr result ((said terms.new).stack ≡ (said terms.old).stack) }
+{
+    if height == 0 || height > terms.choices.len() {
+        return Ok(());
+    }
+    if let Alternative::FindallMark(_, found) = &mut terms.choices[height - 1].what {
+        found.push(copy)?;
+    }
+    Ok(())
 }
 
 /// Whether it is an alternative, and no mark.
@@ -144,6 +162,7 @@ fn is_alternative<C>(what: &Alternative<C>) -> bool
     match what {
         Alternative::NotMark => false,
         Alternative::CatchMark(_, _) => false,
+        Alternative::FindallMark(_, _) => false,
         _ => true,
     }
 }

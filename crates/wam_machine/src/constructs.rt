@@ -20,6 +20,7 @@ use crate::control::Control;
 use crate::errors::{
     call_indicator, catch_indicator, not_indicator, too_many, unbound, unbound_ball, uncallable,
 };
+use crate::findall::gather;
 use crate::goals::push_next;
 use crate::run::Event;
 use crate::state::{Machine, Mode};
@@ -57,6 +58,7 @@ pub(crate) fn construct<C>(
         Control::Call(goal, added) => call_added(machine, alloc, goal, added.as_slice()),
         Control::Once(goal) => once(machine, goal, cut),
         Control::Catch(goal, catcher, recovery) => catch(machine, alloc, goal, catcher, recovery),
+        Control::Findall(template, goal, list) => gather(machine, alloc, template, goal, list),
         Control::Throw(ball) => throw(machine, alloc, ball),
         Control::Halt => unreachable!(),
         Control::HaltWith(_) => unreachable!(),

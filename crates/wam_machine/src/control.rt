@@ -36,6 +36,8 @@ pub(crate) enum Control {
     Once(Cell),
     /// A goal, a catcher and a recovery.
     Catch(Cell, Cell, Cell),
+    /// A template, a goal and a list.
+    Findall(Cell, Cell, Cell),
     /// A ball is raised.
     Throw(Cell),
     /// The run is ended.
@@ -166,6 +168,9 @@ fn three_control(
 {
     if name == b"catch".as_slice() {
         return Ok(Control::Catch(first, second, third));
+    }
+    if name == b"findall".as_slice() {
+        return Ok(Control::Findall(first, second, third));
     }
     if name == b"call".as_slice() {
         let mut added = Vec::new(alloc);

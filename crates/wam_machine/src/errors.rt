@@ -80,6 +80,16 @@ pub(crate) fn catch_indicator(alloc: Global) -> Result<Indicator, Want>
     })
 }
 
+/// The name and arity of `findall`.
+pub(crate) fn findall_indicator(alloc: Global) -> Result<Indicator, Want>
+    ensures { IfOk result (λ i. i ≡ record { name = codes "findall"; arity = 3 }) }
+{
+    Ok(Indicator {
+        name: Name::of(alloc, b"findall")?,
+        arity: 3,
+    })
+}
+
 /// The error of an unbound ball.
 pub(crate) fn unbound_ball(alloc: Global) -> Result<Term, Want>
     ensures { IfOk result (λ t. t ≡ fault_tree Instantiation (record { name = codes "throw"; arity = 1 })) }

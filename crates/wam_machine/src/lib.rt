@@ -13,6 +13,7 @@ mod cuts;
 mod engine;
 mod enter;
 mod errors;
+mod findall;
 mod goals;
 mod keys;
 mod law;

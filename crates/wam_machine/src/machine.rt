@@ -6,7 +6,7 @@ ghost use Rattle.journal_base.specs.Journal.{Journal};
 ghost use Rattle.journal_base.specs.Looks.{HasRoom};
 ghost use Rattle.journal_base.specs.View.{IsSound, Looks};
 ghost use Rattle.wam_machine.specs.Machine.{Setting, Do, move};
-ghost use Rattle.wam_machine.specs.Terms.{AreTerms, IsGoal, IsTurn, HasNewest, said, built, turn_now, is_any_open};
+ghost use Rattle.wam_machine.specs.Terms.{AreTerms, IsGoal, IsTurn, HasNewest, said, built, turn_now, is_open, is_any_open};
 ghost use Rattle.wam_machine.specs.Goals.{IsControl, IsSimple};
 ghost use Rattle.wam_machine.specs.Cursors.{Begins, AreNamed};
 ghost use Rattle.wam_machine.specs.View.{setting, calls, turn_calls, Acts, IsReady, IsLeft, AreKept, Does, Resumes, KeepsCounts, IsRaising, performs_goal};
@@ -15,6 +15,7 @@ use crate::choices::{Newest, any_open, go_back, see_newest};
 use crate::constructs::{construct, repeat};
 use crate::control::{Control, goal_control};
 use crate::cuts::{cut_stack, end_not, leave_catch};
+use crate::findall::{finish, keep_found};
 use crate::goals::{push_next, take_next};
 use crate::procedures::{call, take};
 use crate::raising::{halt, raise};
@@ -24,6 +25,7 @@ use crate::state::{Host, Machine, Mode};
 use crate::terms::{Alternative, Next};
 use journal_base::{Base, Gate};
 use prolog_terms::Want;
+use std::alloc::Global;
 use std::sync::Wait;
 use term_store::Cell;
 
@@ -84,6 +86,11 @@ fn go_on<B: Base, R: Wait, G: Gate>(
         }
         Some(Next::CatchEnd(height)) => {
             leave_catch(base, machine, host, height);
+            Ok(None)
+        }
+        Some(Next::FindallEnd(template, height)) => {
+            keep_found(machine, template, height)?;
+            let _front = base.front();
             Ok(None)
         }
     }
@@ -215,25 +222,34 @@ fn retry<B: Base>(
     match see_newest(&machine.terms) {
         Newest::Nothing => Ok(Some(RunEnd::Exhausted)),
         Newest::Mark | Newest::Catch => {
-            pass_mark(machine);
+            pass_mark(machine, host.alloc)?;
             Ok(None)
         }
         Newest::Open => retake(base, machine, host),
     }
 }
 
-/// Passes a mark, without a step: behind a `\+` the machine goes on, and at a `catch` the failure goes further.
-fn pass_mark<C>(machine: &mut Machine<C>)
+/// Passes a mark, without a step: behind a `\+` the machine goes on, at a `catch` the failure goes further, and a `findall` has
+/// found all.
+fn pass_mark<C>(machine: &mut Machine<C>, alloc: Global) -> Result<(), Want>
     requires failing { machine.old.mode ≡ Mode.Failing }
     requires terms { AreTerms machine.old.terms }
     requires newest { HasNewest (said machine.old.terms).stack false }
-    ensures acts { (x : Setting) → Acts (move x) machine.old machine.new }
+    ensures acts { OnOk result ((x : Setting) → Acts (move x) machine.old machine.new) }
+    ensures err { OnErr result (calls machine.new ≡ calls machine.old) }
 {
     match go_back(&mut machine.terms) {
         Some(Alternative::NotMark) => {
             machine.mode = Mode::Going;
+            Ok(())
         }
-        Some(Alternative::CatchMark(_catcher, _recovery)) => {}
+        Some(Alternative::CatchMark(_catcher, _recovery)) => Ok(()),
+        Some(Alternative::FindallMark(list, found)) => finish(
+            machine,
+            alloc,
+            list,
+            found.as_slice(),
+        ),
         _ => unreachable!(),
     }
 }
@@ -277,6 +293,7 @@ fn resume<B: Base>(
     requires sound { IsSound (B.view base.old) }
     requires terms { AreTerms machine.old.terms }
     requires turn { IsTurn machine.old.terms what }
+    requires open { is_open (turn_now machine.old.terms what) ≡ true }
     requires kept { AreKept (B.serves base.old) B.group (B.out base.old) (calls machine.old ++ turn_calls (turn_now machine.old.terms what)) }
     requires named { (j : Journal) → Begins (B.view base.old) j → All (AreNamed B.rest B.looked_at j) (calls machine.old ++ turn_calls (turn_now machine.old.terms what)) }
     requires room { HasRoom machine.old.tally }
@@ -302,14 +319,8 @@ fn resume<B: Base>(
             let _front = base.front();
             Ok(())
         }
-        Alternative::NotMark => {
-            let _front = base.front();
-            Ok(())
-        }
-        Alternative::CatchMark(_catcher, _recovery) => {
-            machine.mode = Mode::Failing;
-            let _front = base.front();
-            Ok(())
-        }
+        Alternative::NotMark => unreachable!(),
+        Alternative::CatchMark(_, _) => unreachable!(),
+        Alternative::FindallMark(_, _) => unreachable!(),
     }
 }

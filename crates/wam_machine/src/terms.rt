@@ -2,7 +2,7 @@
 ghost use Rattle.std.specs.Prelude.{◌≡◌, []};
 
 use journal_base::How;
-use prolog_terms::Names;
+use prolog_terms::{Names, Term};
 use term_store::{Cell, Store, Trailed};
 
 /// A call whose clauses are tried one after another: its goal, its procedure, and the cursor over the clauses that are left.
@@ -29,6 +29,8 @@ pub(crate) enum Next {
     NotEnd(usize),
     /// The end of the goal of a `catch`, and the height of the stack with its mark on it.
     CatchEnd(usize),
+    /// The end of the goal of a `findall`: its template, and the height of the stack with its mark on it.
+    FindallEnd(Cell, usize),
 }
 
 /// What is still to be done, and the number of the frame with what comes after it; 0 is none.
@@ -50,6 +52,9 @@ pub(crate) enum Alternative<C> {
     NotMark,
     /// With a ball that unifies with the catcher, by the call of the recovery; a failure goes further. This is a mark, too.
     CatchMark(Cell, Cell),
+    /// Behind a `findall`, whose list is made one with that of the copies of its template that were found so far, each with
+    /// variables numbered from 0. This is a mark, too.
+    FindallMark(Cell, Vec<Term>),
 }
 
 /// A moment that may be gone back to: how the machine then goes on, what comes after that, how many frames it may stand in,

@@ -1,6 +1,6 @@
 use Rattle.std.proofs.Common.{length, ap, refl, arith}
 use Rattle.wam_machine.specs.Terms.{said, saved_of}
-use Rattle.wam_machine.proofs.Marked.{none_there, stack-none, terms-dropped, said-dropped, stack-dropped, dropped-call, dropped-right, dropped-again, dropped-not, dropped-catch}
+use Rattle.wam_machine.proofs.Marked.{none_there, stack-none, terms-dropped, said-dropped, stack-dropped, dropped-call, dropped-right, dropped-again, dropped-not, dropped-catch, dropped-findall}
 use Rattle.wam_machine.proofs.choices.drop_newest.Goals as goal
 
 pub returns-in-Clauses-clause-terms : goal.returns-in-Clauses-clause-terms
@@ -57,6 +57,17 @@ pub returns-in-CatchMark-clause-dropped : goal.returns-in-CatchMark-clause-dropp
 returns-in-CatchMark-clause-dropped g c =
     let t = c.args.terms.now in
     (saved_of t.names t.store t.frames.items c.in_ok-what.field-0, (stack-dropped t c.in_ok-what.field-0 c.pop.new.self c.in_ok-what.ensures.items, dropped-catch _ _ _ _ c.in-CatchMark.is))
+
+pub returns-in-FindallMark-clause-terms : goal.returns-in-FindallMark-clause-terms
+returns-in-FindallMark-clause-terms g c = terms-dropped c.args.terms.now c.in_ok-what.field-0 c.pop.new.self c.in_ok-what.ensures.items
+
+pub returns-in-FindallMark-clause-said : goal.returns-in-FindallMark-clause-said
+returns-in-FindallMark-clause-said g c = said-dropped c.args.terms.now c.in_ok-what.field-0 c.pop.new.self c.in_ok-what.ensures.items
+
+pub returns-in-FindallMark-clause-dropped : goal.returns-in-FindallMark-clause-dropped
+returns-in-FindallMark-clause-dropped g c =
+    let t = c.args.terms.now in
+    (saved_of t.names t.store t.frames.items c.in_ok-what.field-0, (stack-dropped t c.in_ok-what.field-0 c.pop.new.self c.in_ok-what.ensures.items, dropped-findall _ _ _ _ c.in-FindallMark.is))
 
 pub returns-in_err-what-clause-said : goal.returns-in_err-what-clause-said
 unfolding said

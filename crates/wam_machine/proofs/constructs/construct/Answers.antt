@@ -49,6 +49,12 @@ returns-in-Catch-clause-acts g c =
     let n = c.catch.new.machine in
     on_ok c.catch.result _ _ (λ h x t e. subst (λ (d : Control). Acts (performing x t c.args.cut (control_in (built m.terms) d)) m n) (sym c.in-Catch.is) h) c.catch.ensures.acts
 
+pub returns-in-Findall-clause-acts : goal.returns-in-Findall-clause-acts
+returns-in-Findall-clause-acts g c =
+    let m = c.args.machine.now in
+    let n = c.gather.new.machine in
+    on_ok c.gather.result _ _ (λ h x t e. subst (λ (d : Control). Acts (performing x t c.args.cut (control_in (built m.terms) d)) m n) (sym c.in-Findall.is) h) c.gather.ensures.acts
+
 pub returns-in-Throw-clause-acts : goal.returns-in-Throw-clause-acts
 returns-in-Throw-clause-acts g c =
     let m = c.args.machine.now in

@@ -1,6 +1,6 @@
 use Rattle.std.proofs.Common.{sym, ◌≡◌, ◌++◌, ◌∷◌, [], refl, ap, ◌∙◌, subst}
 use Rattle.prolog_terms.specs.Substitutions.{substituted, numbered}
-use Rattle.wam_machine.specs.Machine.{Setting, Do, ConditionEnd, NotEnd, CatchEnd, Goes, fails, cut_back, leaving_catch}
+use Rattle.wam_machine.specs.Machine.{Setting, Do, ConditionEnd, NotEnd, CatchEnd, FindallEnd, State, Outcome, Goes, fails, cut_back, leaving_catch, found_at}
 use Rattle.wam_machine.specs.Terms.{Said, said, built, next_now, is_any_open}
 use Rattle.wam_machine.specs.View.{setting, performs_goal, Does}
 use Rattle.wam_machine.specs.declared.run.Event.TheVariants.{Answer}
@@ -10,7 +10,8 @@ use Rattle.wam_machine.specs.declared.terms.Next.{Next as Waiting}
 use Rattle.wam_machine.specs.declared.terms.Terms.{Terms}
 use Rattle.wam_machine.proofs.Acted.{if_ok}
 use Rattle.wam_machine.proofs.Begins.{looks_refl}
-use Rattle.wam_machine.proofs.Going.{same_setting, ready_taken, does_answer, goes_next, does_next}
+use Rattle.wam_machine.proofs.Done.{acts_goes, acts_left, acts_kept}
+use Rattle.wam_machine.proofs.Going.{left_through, same_setting, ready_taken, does_answer, goes_next, does_next}
 use Rattle.wam_machine.proofs.machine.go_on.Goals as goal
 
 pub do_goal-requires-clause-ready : goal.do_goal-requires-clause-ready
@@ -80,3 +81,30 @@ returns-in-Some-CatchEnd-clause-moves g c = λ j b.
     let some = subst (λ (k : Waiting). (said m.terms).goals ≡ next_now t k ∷ (said t).goals) c.in-Some-CatchEnd.field-0-is c.in-Some-CatchEnd.ensures.none in
     goes_next g.B.Base.rest g.B.Base.may_visit g.B.Base.looked_at g.B.Base.ahead _ (setting c.args.host.now m j) m t (CatchEnd h) (λ s. Goes (leaving_catch h s)) c.requires.going some c.in-Some-CatchEnd.ensures.same
     (λ s gs. refl) j c.leave_catch.new.machine (c.leave_catch.ensures.goes j b)
+
+pub returns-in_err-keep_found-in-Some-FindallEnd-clause-seen : goal.returns-in_err-keep_found-in-Some-FindallEnd-clause-seen
+returns-in_err-keep_found-in-Some-FindallEnd-clause-seen g c = looks_refl _ c.requires.ready.sound
+
+pub returns-in_ok-keep_found-in-Some-FindallEnd : goal.returns-in_ok-keep_found-in-Some-FindallEnd
+returns-in_ok-keep_found-in-Some-FindallEnd g c =
+    let m = c.args.machine.now in
+    let t = c.take_next.new.terms in
+    let mid : Machine _ = record m { terms = t } in
+    let n = c.keep_found.new.machine in
+    let a = c.in-Some-FindallEnd in
+    let w = built t a.template in
+    let h = a.height in
+    let ready = ready_taken _ _ _ _ _ _ _ _ m t c.requires.ready a.ensures.terms a.ensures.same in
+    let some = subst (λ (k : Waiting). (said m.terms).goals ≡ next_now t k ∷ (said t).goals) a.field-0-is a.ensures.none in
+    let f : State → Outcome = λ s. fails (record s { stack = found_at h (numbered w) s.stack }) in
+    let acts = c.in_ok-keep_found-in-Some-FindallEnd.ensures.acts in
+    record {
+      seen = looks_refl _ c.requires.ready.sound;
+      becomes = g.met.B.Base.becomes_itself _;
+      kept = acts_kept f mid n acts (g.B.Base.serves c.args.base.now) g.B.Base.group (g.B.Base.out c.args.base.now) ready.kept;
+      left = left_through c.args.host.now.budget (g.B.Base.view c.args.base.now).seen m mid n (ap (λ (u : Said _). u.shown) a.ensures.same)
+          (acts_left f mid n acts c.args.host.now.budget (g.B.Base.view c.args.base.now).seen ready.held);
+      moves = λ j b.
+          goes_next g.B.Base.rest g.B.Base.may_visit g.B.Base.looked_at g.B.Base.ahead _ (setting c.args.host.now m j) m t (FindallEnd w h) f c.requires.going some a.ensures.same
+          (λ s gs. refl) j n (acts_goes f mid n acts g.B.Base.rest g.B.Base.may_visit g.B.Base.looked_at g.B.Base.ahead _ j (ready.each j b));
+    }

@@ -2,14 +2,13 @@ use Rattle.std.proofs.Common.{◌++◌, ◌∷◌, [], refl, sym, subst}
 use Rattle.std.specs.Prelude.{All}
 use Rattle.wam_machine.specs.Cursors.{AreNamed}
 use Rattle.wam_machine.specs.Machine.{Do}
-use Rattle.wam_machine.specs.Terms.{OfRight, OfRepeat, OfNot, OfCatch, built, call_now, turn_now}
+use Rattle.wam_machine.specs.Terms.{OfRight, OfRepeat, built, call_now, turn_now}
 use Rattle.wam_machine.specs.View.{calls, turn_calls, Resumes}
 use Rattle.wam_machine.specs.declared.state.Machine.{Machine}
-use Rattle.wam_machine.specs.declared.state.Mode.TheVariants.{Failing as IsFailing}
 use Rattle.wam_machine.specs.declared.terms.Alternative.{Alternative}
 use Rattle.wam_machine.proofs.Acted.{acts-onwards}
 use Rattle.wam_machine.proofs.Begins.{looks_refl}
-use Rattle.wam_machine.proofs.Resumed.{resumes_call, resumes_acts, acts_still, acts_fails, counts_same}
+use Rattle.wam_machine.proofs.Resumed.{resumes_call, resumes_acts, counts_same}
 use Rattle.wam_machine.proofs.machine.resume.Goals as goal
 
 pub returns-in_err-push_next-in-Right-clause-seen : goal.returns-in_err-push_next-in-Right-clause-seen
@@ -47,26 +46,6 @@ returns-in_ok-repeat-in-Again-clause-resumed g c = λ j b.
     let n = c.repeat.new.machine in
     subst (λ (a : Alternative _). All (AreNamed g.B.Base.rest g.B.Base.looked_at j) (calls m ++ turn_calls (turn_now m.terms a)) → Resumes g.B.Base.rest g.B.Base.may_visit g.B.Base.looked_at g.B.Base.ahead j (turn_now m.terms a) m n) (sym c.in-Again.is)
     (resumes_acts g.B.Base.rest g.B.Base.may_visit g.B.Base.looked_at g.B.Base.ahead j OfRepeat m n refl c.in_ok-repeat-in-Again.ensures.acts) (c.requires.named j b)
-
-pub returns-in-NotMark-clause-seen : goal.returns-in-NotMark-clause-seen
-returns-in-NotMark-clause-seen g c = looks_refl _ c.requires.sound
-
-pub returns-in-NotMark-clause-resumed : goal.returns-in-NotMark-clause-resumed
-returns-in-NotMark-clause-resumed g c = λ j b.
-    let m = c.args.machine.now in
-    subst (λ (a : Alternative _). All (AreNamed g.B.Base.rest g.B.Base.looked_at j) (calls m ++ turn_calls (turn_now m.terms a)) → Resumes g.B.Base.rest g.B.Base.may_visit g.B.Base.looked_at g.B.Base.ahead j (turn_now m.terms a) m m) (sym c.in-NotMark.is)
-    (resumes_acts g.B.Base.rest g.B.Base.may_visit g.B.Base.looked_at g.B.Base.ahead j OfNot m m refl (acts_still m c.requires.terms)) (c.requires.named j b)
-
-pub returns-in-CatchMark-clause-seen : goal.returns-in-CatchMark-clause-seen
-returns-in-CatchMark-clause-seen g c = looks_refl _ c.requires.sound
-
-pub returns-in-CatchMark-clause-resumed : goal.returns-in-CatchMark-clause-resumed
-returns-in-CatchMark-clause-resumed g c = λ j b.
-    let m = c.args.machine.now in
-    let n : Machine _ = record m { mode = IsFailing } in
-    let turn = OfCatch (built m.terms c.in-CatchMark._catcher) (built m.terms c.in-CatchMark._recovery) in
-    subst (λ (a : Alternative _). All (AreNamed g.B.Base.rest g.B.Base.looked_at j) (calls m ++ turn_calls (turn_now m.terms a)) → Resumes g.B.Base.rest g.B.Base.may_visit g.B.Base.looked_at g.B.Base.ahead j (turn_now m.terms a) m n) (sym c.in-CatchMark.is)
-    (resumes_acts g.B.Base.rest g.B.Base.may_visit g.B.Base.looked_at g.B.Base.ahead j turn m n refl (acts_fails m c.requires.terms)) (c.requires.named j b)
 
 pub returns-in_ok-repeat-in-Again-clause-counts : goal.returns-in_ok-repeat-in-Again-clause-counts
 returns-in_ok-repeat-in-Again-clause-counts g c =

@@ -13,6 +13,12 @@ returns-then-machine-host-clause-moves g c = λ j b.
     let m = c.args.machine.now in
     retake_spent (setting c.args.host.now m j) m c.requires.failing g.B.Base.rest g.B.Base.looked_at c.requires.newest c.if-machine-host.true
 
+pub resume-requires-clause-open : goal.resume-requires-clause-open
+resume-requires-clause-open g c =
+    let m = c.args.machine.now in
+    let t = c.go_back.new.terms in
+    newest-open (said m.terms).stack (said t).stack (saved_now t c.in-Some.what) true c.requires.newest c.in-Some.ensures.none
+
 pub resume-requires-clause-kept : goal.resume-requires-clause-kept
 resume-requires-clause-kept g c =
     let t = c.go_back.new.terms in

@@ -1,23 +1,25 @@
-use Rattle.std.proofs.Common.{[]}
+use Rattle.std.proofs.Common.{[], sym, subst}
 use Rattle.wam_machine.specs.Machine.{move}
-use Rattle.wam_machine.specs.View.{setting}
+use Rattle.wam_machine.specs.View.{setting, AreKept}
+use Rattle.wam_machine.proofs.Begins.{looks_refl}
 use Rattle.wam_machine.proofs.Done.{acts_goes, acts_left, acts_kept}
 use Rattle.wam_machine.proofs.machine.retry.Goals as goal
 
-pub returns-in-Mark-clause-kept : goal.returns-in-Mark-clause-kept
-returns-in-Mark-clause-kept g c =
-    let m = c.args.machine.now in
-    let x = setting c.args.host.now m [] in
-    acts_kept (move x) m c.pass_mark.new.machine (c.pass_mark.ensures.acts x) (g.B.Base.serves c.args.base.now) g.B.Base.group (g.B.Base.out c.args.base.now) c.requires.ready.kept
+pub returns-in_err-pass_mark-in-Mark-clause-seen : goal.returns-in_err-pass_mark-in-Mark-clause-seen
+returns-in_err-pass_mark-in-Mark-clause-seen g c = looks_refl _ c.requires.ready.sound
 
-pub returns-in-Mark-clause-left : goal.returns-in-Mark-clause-left
-returns-in-Mark-clause-left g c =
+pub returns-in_ok-pass_mark-in-Mark : goal.returns-in_ok-pass_mark-in-Mark
+returns-in_ok-pass_mark-in-Mark g c =
     let m = c.args.machine.now in
+    let n = c.pass_mark.new.machine in
     let x = setting c.args.host.now m [] in
-    acts_left (move x) m c.pass_mark.new.machine (c.pass_mark.ensures.acts x) c.args.host.now.budget (g.B.Base.view c.args.base.now).seen c.requires.ready.held
-
-pub returns-in-Mark-clause-moves : goal.returns-in-Mark-clause-moves
-returns-in-Mark-clause-moves g c = λ j b.
-    let m = c.args.machine.now in
-    let x = setting c.args.host.now m j in
-    acts_goes (move x) m c.pass_mark.new.machine (c.pass_mark.ensures.acts x) g.B.Base.rest g.B.Base.may_visit g.B.Base.looked_at g.B.Base.ahead _ j (c.requires.ready.each j b)
+    let acts = c.in_ok-pass_mark-in-Mark.ensures.acts in
+    record {
+      seen = looks_refl _ c.requires.ready.sound;
+      becomes = g.met.B.Base.becomes_itself _;
+      kept = acts_kept (move x) m n (acts x) (g.B.Base.serves c.args.base.now) g.B.Base.group (g.B.Base.out c.args.base.now) c.requires.ready.kept;
+      left = acts_left (move x) m n (acts x) c.args.host.now.budget (g.B.Base.view c.args.base.now).seen c.requires.ready.held;
+      moves = λ j b.
+          let y = setting c.args.host.now m j in
+          acts_goes (move y) m n (acts y) g.B.Base.rest g.B.Base.may_visit g.B.Base.looked_at g.B.Base.ahead _ j (c.requires.ready.each j b);
+    }

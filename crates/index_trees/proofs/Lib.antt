@@ -1,0 +1,14 @@
+pub mod Searching
+pub mod Walking
+pub mod Coded
+pub mod Rising
+pub mod Parting
+pub mod Standing
+pub mod Holding
+pub mod Imaging
+pub mod Rowed
+pub mod Counted
+pub mod Least
+pub mod Codes
+pub mod Sums
+pub mod Found

@@ -5,9 +5,9 @@ use Rattle.std.specs.Cmp.Lexicographic.{pointwise}
 use Rattle.std.specs.List.{filter}
 use Rattle.std.specs.Option.{option_map_or, is_some}
 use Rattle.prolog_terms.specs.declared.entry.Clause.{Clause}
-use Rattle.journal_base.specs.Keys.{Key, GoalKeys, keys, keys_agree, could_match}
-use Rattle.journal_base.specs.Journal.{Journal, alive, clause_named}
-use Rattle.journal_base.specs.Candidates.{head_agrees, candidates}
+use Rattle.call_patterns.specs.Keys.{Key, GoalKeys, keys, keys_agree, could_match}
+use Rattle.journals.specs.Journal.{Journal, alive, clause_named}
+use Rattle.call_patterns.specs.Candidates.{head_agrees, candidates}
 use Rattle.call_patterns.specs.declared.row.Row.{Row}
 use Rattle.call_patterns.specs.Codes.{key_code, codes}
 use Rattle.call_patterns.specs.Patterns.{argument_positions, has_key, key_in, pattern, pattern_codes}

@@ -1,3 +1,10 @@
+pub mod Walking
+pub mod Enough
+pub mod NodeKeys
+pub mod Filled
+pub mod NumberedKeys
+pub mod Agreeing
 pub mod Bucketed
 pub mod SameKeys
 pub mod Positioned
+pub mod Sized

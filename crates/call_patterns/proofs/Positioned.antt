@@ -3,7 +3,7 @@ use Rattle.std.proofs.Common.{◌≡◌, ℕ, zero, suc, ◌+◌, ◌*◌, ◌<�
 use Rattle.std.proofs.lemmas.List.{append-nil, take_all}
 use Rattle.std.proofs.lemmas.List.Elements.{filter-append}
 use Rattle.std.specs.List.{filter}
-use Rattle.journal_base.specs.declared.key.Position.{Position}
+use Rattle.call_patterns.specs.declared.key.Position.{Position}
 use Rattle.call_patterns.specs.declared.pattern.Pattern.{Pattern}
 use Rattle.call_patterns.specs.Patterns.{argument_positions, IsPattern}
 

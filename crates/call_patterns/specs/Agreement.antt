@@ -1,7 +1,7 @@
 -- How many clauses of a procedure agree with a goal at the positions of its pattern.
 use Rattle.std.specs.Prelude.{ℕ, length}
-use Rattle.journal_base.specs.Keys.{GoalKeys}
-use Rattle.journal_base.specs.Journal.{Journal}
+use Rattle.call_patterns.specs.Keys.{GoalKeys}
+use Rattle.journals.specs.Journal.{Journal}
 use Rattle.call_patterns.specs.Patterns.{pattern, pattern_codes}
 use Rattle.call_patterns.specs.Rows.{rows, bucket}
 

@@ -1,7 +1,7 @@
 -- The code of a key: FNV-1a of 64 bits over the key's bytes.
 use Rattle.std.specs.Prelude.{◌≡◌, ℕ, ◌*◌, ◌%◌, ◌^◌, List, [], ◌∷◌, bit_xor, Option, option_map, map, refl}
 use Rattle.std.specs.Int.{w64, to_le_bytes, cast_unsigned}
-use Rattle.journal_base.specs.Keys.{Key, integer_key, atom_key, functor_key, GoalKeys}
+use Rattle.call_patterns.specs.Keys.{Key, integer_key, atom_key, functor_key, GoalKeys}
 
 -- for each byte exclusive or with the hash, and then the product modulo 2 ^ 64
 unfoldable pub fnv : ℕ → List ℕ → ℕ

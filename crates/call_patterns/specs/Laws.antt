@@ -1,6 +1,8 @@
--- Worked sizes of trees.
-use Rattle.std.specs.Prelude.{◌≡◌, ℕ, ◌+◌, List, [], ◌∷◌, map, Option, Some, None}
-use Rattle.call_patterns.specs.Size.{header_length, size_from}
+-- Sizes of trees: worked ones, and those of some forms by how many rows and codes there are.
+use Rattle.std.specs.Prelude.{◌≡◌, ℕ, ◌+◌, ◌*◌, ◌≤◌, List, [], ◌∷◌, length, map, false, Option, Some, None, All}
+use Rattle.call_patterns.specs.Patterns.{positions}
+use Rattle.call_patterns.specs.Size.{codes_at, has_no_code, header_length, size, size_from}
+use Rattle.call_patterns.specs.declared.pattern.Pattern.{Pattern}
 use Rattle.call_patterns.specs.declared.row.Row.{Row}
 
 -- a row with codes at the first positions
@@ -34,3 +36,25 @@ pub record WorkedSizes : Type 0 where
   pub nothing : words (0 ∷ 1 ∷ []) [] ≡ 9
   -- eight rows at no position: 10 + 8
   pub no_position : words [] (map one_code eight) ≡ 18
+
+-- ---- sizes by counts
+
+-- each row has a code at a position
+abbrev pub HaveCodes : ℕ → List Row → Type 0
+HaveCodes p rows = All (λ row. has_no_code p row ≡ false) rows
+
+-- there are as many distinct codes at a position as rows
+abbrev pub AreDistinctAt : ℕ → List Row → Type 0
+AreDistinctAt p rows = length (codes_at p rows) ≡ length rows
+
+pub record SizesByCounts : Type 0 where
+  -- the size of a tree is that at the positions of its pattern
+  pub whole : (rows : List Row) (pattern : Pattern) → size rows pattern ≡ words (positions pattern) rows
+  -- no rows, at any positions
+  pub nothing : (positions : List ℕ) → words positions [] ≡ 9
+  -- at no position
+  pub no_position : (rows : List Row) → 1 ≤ length rows → words [] rows ≡ 10 + length rows
+  -- at one position, where each row has a code
+  pub one_position : (p : ℕ) (rows : List Row) → 1 ≤ length rows → HaveCodes p rows → words (p ∷ []) rows ≡ 11 + 3 * length (codes_at p rows) + length rows
+  -- at two positions, where each row has a code at both, and those at the first are distinct
+  pub two_positions : (p q : ℕ) (rows : List Row) → 1 ≤ length rows → HaveCodes p rows → HaveCodes q rows → AreDistinctAt p rows → words (p ∷ q ∷ []) rows ≡ 11 + 8 * length rows

@@ -1,6 +1,14 @@
+pub mod Keys
+pub mod Calls
+pub mod Candidates
+pub mod Places
+pub mod Wanted
+pub mod NodeKey
+pub mod Filling
 pub mod Codes
 pub mod Patterns
 pub mod Rows
 pub mod Size
 pub mod Agreement
 pub mod Laws
+pub mod Examples

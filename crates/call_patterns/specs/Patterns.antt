@@ -1,7 +1,7 @@
 -- The pattern of a call: the first of the argument positions at which the goal has a key, three at most.
 use Rattle.std.specs.Prelude.{◌≡◌, ◌≤◌, ◌<◌, ℕ, List, [], ◌∷◌, length, take, filter, map, Bool, Option, option_and_then, slice_get, slice_index}
 use Rattle.std.specs.Option.{option_map_or, is_some}
-use Rattle.journal_base.specs.Keys.{Key, GoalKeys}
+use Rattle.call_patterns.specs.Keys.{Key, GoalKeys}
 use Rattle.call_patterns.specs.Codes.{key_code}
 use Rattle.call_patterns.specs.declared.pattern.Pattern.{Pattern}
 

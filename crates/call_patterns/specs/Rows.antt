@@ -1,8 +1,8 @@
 -- Rows: the clauses of a procedure with the codes of their heads, and the bucket of some codes.
 use Rattle.std.specs.Prelude.{ℕ, ◌==◌, ◌&&◌, List, [], ◌∷◌, filter, map, Bool, true, Option, Some, None, option_and_then, slice_get}
 use Rattle.prolog_terms.specs.declared.entry.Clause.{Clause}
-use Rattle.journal_base.specs.Keys.{keys}
-use Rattle.journal_base.specs.Journal.{Journal, alive, clause_named}
+use Rattle.call_patterns.specs.Keys.{keys}
+use Rattle.journals.specs.Journal.{Journal, alive, clause_named}
 use Rattle.call_patterns.specs.Codes.{codes}
 use Rattle.call_patterns.specs.declared.row.Row.{Row}
 

@@ -1,11 +1,11 @@
 // The code of a key: FNV-1a of 64 bits over its bytes.
 
 ghost use Rattle.call_patterns.specs.Codes.{fnv, hash, key_code};
-ghost use Rattle.journal_base.specs.Calls.{IsKeyOf, key_of};
-ghost use Rattle.journal_base.specs.Keys.{atom_key, functor_key, integer_key};
+ghost use Rattle.call_patterns.specs.Calls.{IsKeyOf, key_of};
+ghost use Rattle.call_patterns.specs.Keys.{atom_key, functor_key, integer_key};
 ghost use Rattle.std.specs.Prelude.{Some, ◌<◌, ◌≡◌};
 
-use journal_base::Key;
+use crate::key::Key;
 use prolog_terms::{Names, Whole};
 
 /// Where the hash begins.

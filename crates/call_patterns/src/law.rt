@@ -1,13 +1,14 @@
-// Laws of codes and sizes.
+// Laws of keys, codes and sizes.
 
 ghost use Rattle.call_patterns.specs.Agreement.{agreeing};
 ghost use Rattle.call_patterns.specs.Codes.{hash, key_code};
-ghost use Rattle.call_patterns.specs.Laws.{WorkedSizes};
+ghost use Rattle.call_patterns.specs.Examples.{HasRows};
+ghost use Rattle.call_patterns.specs.Laws.{SizesByCounts, WorkedSizes};
 ghost use Rattle.call_patterns.specs.Patterns.{pattern, pattern_codes};
 ghost use Rattle.call_patterns.specs.Rows.{bucket, names, rows};
-ghost use Rattle.journal_base.specs.Candidates.{candidates, head_agrees};
-ghost use Rattle.journal_base.specs.Journal.{Journal, alive, clause_named};
-ghost use Rattle.journal_base.specs.Keys.{GoalKeys, Key, same_key};
+ghost use Rattle.call_patterns.specs.Candidates.{candidates, head_agrees};
+ghost use Rattle.journals.specs.Journal.{Journal, alive, clause_named};
+ghost use Rattle.call_patterns.specs.Keys.{GoalKeys, Key, same_key};
 ghost use Rattle.std.specs.Prelude.{[], filter, length, true, ℕ, ◌∷◌, ◌≡◌};
 
 /// The hash of the one byte `a` is the published one.
@@ -32,4 +33,15 @@ pub fn candidates_are_in_the_bucket()
 /// Worked sizes of trees, computed by the checker.
 pub fn worked_sizes()
     ensures { WorkedSizes }
+{}
+
+/// The sizes of trees by how many rows and distinct codes there are: of no rows, at no position, and at one or two positions
+/// where each row has a code.
+pub fn sizes_by_counts()
+    ensures { SizesByCounts }
+{}
+
+/// Worked keys and candidates, computed by the checker.
+pub fn worked_keys()
+    ensures { HasRows }
 {}

@@ -1,10 +1,10 @@
 // The pattern of a call: where an index looks.
 
 ghost use Rattle.call_patterns.specs.Patterns.{IsPattern, has_key as is_key_there, pattern, positions};
-ghost use Rattle.journal_base.specs.Calls.{goal_keys};
+ghost use Rattle.call_patterns.specs.Calls.{goal_keys};
 ghost use Rattle.std.specs.Prelude.{List, [], take, ℕ, ◌++◌, ◌<◌, ◌∷◌, ◌≡◌};
 
-use journal_base::{Keys, Position};
+use crate::key::{Keys, Position};
 
 /// At most three positions, in ascending order: the first `count` of `at`. The others are position 0.
 #[derive(Clone, Copy, Debug, PartialEq, Eq)]

@@ -1,9 +1,8 @@
-// Codes and patterns of keys that are written out. The codes are another program's, which gives the published values of
+// Keys of terms, and codes and patterns of keys that are written out. The codes are another program's, which gives the published values of
 // FNV-1a for the texts `a` and `foobar`.
 
-use crate::{Pattern, code, pattern_of};
-use journal_base::{Key, Keys, Position};
-use prolog_terms::{Names, Want, Whole};
+use crate::{Key, Keys, Pattern, Position, code, could_match, keys_of, pattern_of, position_at};
+use prolog_terms::{Name, Names, Node, Term, Want, Whole};
 use std::alloc::Global;
 use std::process::Abort;
 use std::rt::HostRuntime;
@@ -75,4 +74,61 @@ fn calls_have_patterns(rt: HostRuntime) {
         pattern_of(&keys_at(&[5, 0, 30, 10, 35])),
         pattern(3, 0, 5, 10)
     );
+}
+
+/// The atom of a text.
+fn atom_node(alloc: Global, text: &[u8]) -> Result<Node, Want> {
+    Ok(Node::Atom(Name::of(alloc, text)?))
+}
+
+/// The term `p(First, f(Inner))`.
+fn term(alloc: Global, first: Node, inner: Node) -> Result<Term, Want> {
+    let mut nodes = Vec::new(alloc);
+    nodes.push(Node::Functor(Name::of(alloc, b"p")?, 2))?;
+    nodes.push(first)?;
+    nodes.push(Node::Functor(Name::of(alloc, b"f")?, 1))?;
+    nodes.push(inner)?;
+    match Term::of_nodes(nodes) {
+        Ok(term) => Ok(term),
+        Err(_) => Err(Want),
+    }
+}
+
+/// The key at a position.
+fn key_there(keys: &Keys, position: usize) -> Option<Key> {
+    match keys.at.get(position) {
+        Some(key) => *key,
+        None => None,
+    }
+}
+
+#[test]
+fn terms_have_keys(rt: HostRuntime) -> Result<(), Want> {
+    let alloc = rt.alloc();
+    let mut names = Names::new(alloc);
+    let term = term(alloc, atom_node(alloc, b"a")?, Node::Int(7))?;
+    let keys = keys_of(term.nodes(), &mut names)?;
+    assert_eq!(rt; key_there(&keys, 0), Some(Key::Atom(0)));
+    assert_eq!(rt; key_there(&keys, 1), None);
+    assert_eq!(rt; key_there(&keys, 5), Some(Key::Functor(1, 1)));
+    assert_eq!(rt; key_there(&keys, 6), Some(Key::Int(7)));
+    assert_eq!(rt; key_there(&keys, 10), None);
+    assert_eq!(rt; position_at(term.nodes(), 6), 3);
+    Ok(())
+}
+
+#[test]
+fn keys_agree_where_one_has_none(rt: HostRuntime) -> Result<(), Want> {
+    let alloc = rt.alloc();
+    let mut names = Names::new(alloc);
+    let head = term(alloc, Node::Var(0), Node::Int(7))?;
+    let same = term(alloc, atom_node(alloc, b"a")?, Node::Int(7))?;
+    let other = term(alloc, atom_node(alloc, b"a")?, Node::Int(8))?;
+    let head = keys_of(head.nodes(), &mut names)?;
+    let same = keys_of(same.nodes(), &mut names)?;
+    let other = keys_of(other.nodes(), &mut names)?;
+    assert_eq!(rt; could_match(&head, &same), true);
+    assert_eq!(rt; could_match(&head, &other), false);
+    assert_eq!(rt; could_match(&same, &other), false);
+    Ok(())
 }

@@ -12,3 +12,5 @@ pub mod Least
 pub mod Codes
 pub mod Sums
 pub mod Found
+pub mod Lawfully
+pub mod Named

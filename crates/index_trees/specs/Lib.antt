@@ -5,3 +5,4 @@ pub mod Parts
 pub mod Trees
 pub mod Images
 pub mod Limits
+pub mod Lawful

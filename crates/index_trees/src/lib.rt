@@ -1,8 +1,8 @@
 //! Partial trees over the codes of clause heads, as a list of words.
 //!
 //! `specs/Reading.antt` says how the words of a tree are read and which bucket some codes lead to, and `specs/Images.antt`
-//! what the image of a tree is; rows, buckets and sizes are those of `call_patterns`. An image has these words, the header
-//! first:
+//! what the image of a tree is; rows, buckets and sizes are those of `call_patterns`. `specs/Lawful.antt` says which images
+//! are lawful for a journal. An image has these words, the header first:
 //!
 //! | Word | Holds |
 //! |---|---|
@@ -33,7 +33,7 @@ mod sizing;
 mod tests;
 
 pub use image::{Bucket, Mark};
-pub use law::probes_find_the_rows;
+pub use law::{built_images_are_lawful, lawful_images_name_one_procedure, probes_find_the_rows};
 pub use making::build;
 pub use reading::{bucket_word, probe};
 pub use sizing::{TreeSize, tree_size};

@@ -10,6 +10,7 @@ use crate::building::node;
 use crate::image::{Mark, ROOT_WORD, SIZE_WORD};
 use crate::item::Item;
 use call_patterns::{Pattern, Row};
+use prolog_terms::Want;
 use std::alloc::{AllocError, Global};
 use word_fields::{Field, fields};
 
@@ -126,12 +127,7 @@ fn close(words: &mut Vec<u64>, root: u64)
 
 /// The image of the tree of the rows: for every list of codes as long as the pattern, the codes lead to the bucket of the
 /// rows, in their order.
-pub fn build(
-    alloc: Global,
-    rows: &[Row],
-    pattern: Pattern,
-    mark: &Mark,
-) -> Result<Vec<u64>, AllocError>
+pub fn build(alloc: Global, rows: &[Row], pattern: Pattern, mark: &Mark) -> Result<Vec<u64>, Want>
     requires pattern { IsPattern pattern }
     ensures header { IfOk result (λ v. IsHeader v.items (header_word mark.now.proc (shown_at pattern 0) (shown_at pattern 1) (shown_at pattern 2)) mark.now (length rows.now)) }
     ensures size { IfOk result (λ v. length v.items ≡ size rows.now pattern) }

@@ -4,9 +4,9 @@ ghost use Rattle.call_patterns.specs.Patterns.{IsPattern};
 ghost use Rattle.std.specs.Prelude.{ℕ, ◌≡◌};
 
 use crate::{Mark, TreeSize, bucket_word, build, probe, tree_size};
-use call_patterns::{Pattern, Row, pattern_of};
-use journal_base::{Key, Keys};
-use std::alloc::{AllocError, Global};
+use call_patterns::{Key, Keys, Pattern, Row, pattern_of};
+use prolog_terms::Want;
+use std::alloc::Global;
 use std::process::Abort;
 use std::rt::HostRuntime;
 
@@ -40,7 +40,7 @@ fn row(clause: u64, first: Option<u64>, second: Option<u64>) -> Row {
 }
 
 /// Rows of these codes, named from 1 on.
-fn rows_of(alloc: Global, codes: &[(Option<u64>, Option<u64>)]) -> Result<Vec<Row>, AllocError> {
+fn rows_of(alloc: Global, codes: &[(Option<u64>, Option<u64>)]) -> Result<Vec<Row>, Want> {
     let mut rows = Vec::new(alloc);
     for (first, second) in codes {
         let clause = rows.len() as u64 + 1;
@@ -50,7 +50,7 @@ fn rows_of(alloc: Global, codes: &[(Option<u64>, Option<u64>)]) -> Result<Vec<Ro
 }
 
 /// So many rows whose codes are distinct.
-fn distinct(alloc: Global, count: u64) -> Result<Vec<Row>, AllocError> {
+fn distinct(alloc: Global, count: u64) -> Result<Vec<Row>, Want> {
     let mut rows = Vec::new(alloc);
     for clause in 0..count {
         rows.push(row(clause, Some(clause ^ 0x5555), None))?;
@@ -59,12 +59,7 @@ fn distinct(alloc: Global, count: u64) -> Result<Vec<Row>, AllocError> {
 }
 
 /// The names to which the codes lead in the tree of the rows.
-fn found(
-    alloc: Global,
-    rows: &[Row],
-    pattern: Pattern,
-    codes: &[u64],
-) -> Result<Vec<u64>, AllocError>
+fn found(alloc: Global, rows: &[Row], pattern: Pattern, codes: &[u64]) -> Result<Vec<u64>, Want>
     requires { IsPattern pattern }
 {
     let mut names = Vec::new(alloc);
@@ -86,7 +81,7 @@ fn leads(
     arguments: &[u8],
     codes: &[u64],
     names: &[u64],
-) -> Result<bool, AllocError> {
+) -> Result<bool, Want> {
     let found = found(alloc, rows, pattern(arguments), codes)?;
     Ok(found.as_slice() == names)
 }
@@ -95,13 +90,13 @@ fn size(alloc: Global, rows: &[Row], arguments: &[u8], limit: u64) -> TreeSize {
     tree_size(alloc, rows, pattern(arguments), limit)
 }
 
-fn length(alloc: Global, rows: &[Row], arguments: &[u8]) -> Result<usize, AllocError> {
+fn length(alloc: Global, rows: &[Row], arguments: &[u8]) -> Result<usize, Want> {
     let words = build(alloc, rows, pattern(arguments), &MARK)?;
     Ok(words.len())
 }
 
 #[test]
-fn distinct_codes_have_three_words_each(rt: HostRuntime) -> Result<(), AllocError> {
+fn distinct_codes_have_three_words_each(rt: HostRuntime) -> Result<(), Want> {
     let rows = distinct(rt.alloc(), 8)?;
     assert_eq!(rt; size(rt.alloc(), &rows, &[0], 43), TreeSize::Words(43));
     assert_eq!(rt; size(rt.alloc(), &rows, &[0], 42), TreeSize::Above);
@@ -115,7 +110,7 @@ fn distinct_codes_have_three_words_each(rt: HostRuntime) -> Result<(), AllocErro
 }
 
 #[test]
-fn the_header_is_written(rt: HostRuntime) -> Result<(), AllocError> {
+fn the_header_is_written(rt: HostRuntime) -> Result<(), Want> {
     let rows = distinct(rt.alloc(), 2)?;
     let words = build(rt.alloc(), &rows, pattern(&[1, 0]), &MARK)?;
     assert!(rt;
@@ -127,7 +122,7 @@ fn the_header_is_written(rt: HostRuntime) -> Result<(), AllocError> {
 }
 
 #[test]
-fn a_code_leads_to_its_rows_and_those_without(rt: HostRuntime) -> Result<(), AllocError> {
+fn a_code_leads_to_its_rows_and_those_without(rt: HostRuntime) -> Result<(), Want> {
     let rows = rows_of(
         rt.alloc(),
         &[
@@ -145,7 +140,7 @@ fn a_code_leads_to_its_rows_and_those_without(rt: HostRuntime) -> Result<(), All
 }
 
 #[test]
-fn codes_at_two_positions_lead_on(rt: HostRuntime) -> Result<(), AllocError> {
+fn codes_at_two_positions_lead_on(rt: HostRuntime) -> Result<(), Want> {
     let rows = rows_of(
         rt.alloc(),
         &[
@@ -165,7 +160,7 @@ fn codes_at_two_positions_lead_on(rt: HostRuntime) -> Result<(), AllocError> {
 
 /// 65,000 rows of distinct codes, and 65,000 that have none.
 #[test]
-fn a_tree_far_above_the_limit_is_refused(rt: HostRuntime) -> Result<(), AllocError> {
+fn a_tree_far_above_the_limit_is_refused(rt: HostRuntime) -> Result<(), Want> {
     let mut rows = distinct(rt.alloc(), 65_000)?;
     for clause in 65_000..130_000 {
         rows.push(row(clause, None, None))?;
@@ -175,7 +170,7 @@ fn a_tree_far_above_the_limit_is_refused(rt: HostRuntime) -> Result<(), AllocErr
 }
 
 #[test]
-fn many_rows_are_built(rt: HostRuntime) -> Result<(), AllocError> {
+fn many_rows_are_built(rt: HostRuntime) -> Result<(), Want> {
     let rows = distinct(rt.alloc(), 100_000)?;
     assert_eq!(rt;
         size(rt.alloc(), &rows, &[0], 1 << 19),

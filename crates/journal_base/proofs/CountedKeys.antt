@@ -8,13 +8,13 @@ use Rattle.prolog_terms.specs.Tree.{Tree}
 use Rattle.prolog_terms.specs.Flat.{are_trees, tree, nodes, tree-nodes, IsPrefixOrder-test}
 use Rattle.prolog_terms.specs.declared.node.Node.{Node}
 use Rattle.prolog_terms.specs.declared.entry.Clause.{Clause}
-use Rattle.journal_base.specs.Numbers.{numbers_from}
-use Rattle.journal_base.specs.Keys.{keys, key_at, subterm_at}
-use Rattle.journal_base.specs.Places.{tree_at}
-use Rattle.journal_base.specs.NodeKey.{place_key}
+use Rattle.journals.specs.Numbers.{numbers_from}
+use Rattle.call_patterns.specs.Keys.{keys, key_at, subterm_at}
+use Rattle.call_patterns.specs.Places.{tree_at}
+use Rattle.call_patterns.specs.NodeKey.{place_key}
 use Rattle.journal_base.specs.Space.{clause_words, term_words, node_words}
 use Rattle.std.specs.List.{sum_by}
-use Rattle.journal_base.proofs.NodeKeys.{numbers_from-last, position_key}
+use Rattle.call_patterns.proofs.NodeKeys.{numbers_from-last, position_key}
 
 counted : Tree → ℕ → ℕ
 counted t p = length (filter is_some (map (key_at t) (numbers_from 0 p)))

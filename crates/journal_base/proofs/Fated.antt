@@ -8,7 +8,7 @@ use Rattle.std.proofs.lemmas.List.Sums.{sum_by_push, sum_by-set, get_or-le-sum_b
 use Rattle.std.proofs.lemmas.Option.{slice_get_within, slice_get_past, slice_get-get_or, get_or_from_slice_get}
 use Rattle.prolog_terms.specs.declared.entry.Entry.{Entry}
 use Rattle.prolog_terms.specs.declared.entry.What.TheVariants.{Erase}
-use Rattle.journal_base.specs.Journal.{Journal, is_erased, erases, added, clause_named}
+use Rattle.journals.specs.Journal.{Journal, is_erased, erases, added, clause_named}
 use Rattle.journal_base.specs.Fates.{AreFates, AreToldBy, is_gone_by, is_alive, alive_in}
 use Rattle.journal_base.specs.declared.fate.Fate.{Fate}
 use Rattle.journal_base.specs.declared.fate.Fate.TheVariants.{NoClause, Alive, ErasedBy}

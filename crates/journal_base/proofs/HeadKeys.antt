@@ -5,12 +5,12 @@ use Rattle.std.proofs.lemmas.Option.{slice_get-map}
 use Rattle.prolog_terms.specs.Tree.{Tree}
 use Rattle.prolog_terms.specs.Flat.{nodes, are_trees}
 use Rattle.prolog_terms.specs.declared.node.Node.{Node}
-use Rattle.journal_base.specs.Keys.{key, key_at, keys_agree, subterm_at}
-use Rattle.journal_base.specs.Places.{tree_at}
-use Rattle.journal_base.specs.Calls.{goal_keys, key_of}
-use Rattle.journal_base.specs.declared.key.Key as Call
-use Rattle.journal_base.specs.NodeKey.{rest_agrees}
-use Rattle.journal_base.proofs.NodeKeys.{one_key, place_is, position_key}
+use Rattle.call_patterns.specs.Keys.{key, key_at, keys_agree, subterm_at}
+use Rattle.call_patterns.specs.Places.{tree_at}
+use Rattle.call_patterns.specs.Calls.{goal_keys, key_of}
+use Rattle.call_patterns.specs.declared.key.Key as Call
+use Rattle.call_patterns.specs.NodeKey.{rest_agrees}
+use Rattle.call_patterns.proofs.NodeKeys.{one_key, place_is, position_key}
 
 pub tested_at : (t : Tree) (ns : List Node) (names : List (List ℕ)) (at : List (Option Call.Key)) (p a : ℕ) (k : Option Call.Key) (b : Bool)
     → ns ≡ nodes t → IsTrue (are_trees 1 ns) → p < 40

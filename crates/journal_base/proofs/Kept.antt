@@ -9,11 +9,12 @@ use Rattle.prolog_terms.specs.declared.entry.Indicator.{Indicator}
 use Rattle.prolog_terms.specs.declared.entry.Kind.{Kind}
 use Rattle.prolog_terms.specs.declared.entry.End.{End}
 use Rattle.prolog_terms.specs.declared.entry.What.TheVariants.{Declare, Add, Erase}
-use Rattle.journal_base.specs.Journal.{Journal, procedures, declaration, procedure_named, same_indicator, clause_named, is_erased}
+use Rattle.journals.specs.Journal.{Journal, procedures, declaration, procedure_named, same_indicator, clause_named, is_erased}
 use Rattle.journal_base.specs.Legal.{MayChange, MayAdd, MayErase, MayChangeClause, MayFollow}
 use Rattle.journal_base.specs.Space.{need, used, clause_words, text_words}
 use Rattle.journal_base.specs.PlainInside.{Found, AreKept}
-use Rattle.journal_base.proofs.Entries.{Legal-push, used-push, procedures-push, procedures-same}
+use Rattle.journals.proofs.Entries.{procedures-push, procedures-same}
+use Rattle.journal_base.proofs.Entries.{Legal-push, used-push}
 use Rattle.journal_base.proofs.Procedures.{no_number, named-same, found-after, few_procedures}
 
 module _ (w u : ℕ) (J : Journal) (f : Found) (d n : ℕ) (h : AreKept w u J f d n) where

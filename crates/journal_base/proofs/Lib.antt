@@ -1,10 +1,4 @@
-pub mod Enough
 pub mod Entries
-pub mod NodeKeys
-pub mod Walking
-pub mod SameKeys
-pub mod Filled
-pub mod Agreeing
 pub mod HeadKeys
 pub mod Scans
 pub mod WholeScan
@@ -15,4 +9,3 @@ pub mod Procedures
 pub mod Kept
 pub mod PlainSteps
 pub mod PlainLaws
-pub mod Examples

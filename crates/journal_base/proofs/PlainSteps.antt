@@ -6,7 +6,7 @@ use Rattle.std.proofs.lemmas.Bool.{eq-eqb}
 use Rattle.std.proofs.lemmas.List.Elements.{filter-append, All-nil, All-cons}
 use Rattle.prolog_terms.specs.declared.entry.Entry.{Entry}
 use Rattle.prolog_terms.specs.declared.entry.What.{What}
-use Rattle.journal_base.specs.Journal.{Journal}
+use Rattle.journals.specs.Journal.{Journal}
 use Rattle.journal_base.specs.Legal.{Legal}
 use Rattle.journal_base.specs.View.{AreSizes, InSeen, Looks, Appends, entries_by}
 use Rattle.journal_base.specs.Plain.{Plain, plain_view, IsContinued}

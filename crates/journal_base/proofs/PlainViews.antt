@@ -1,10 +1,10 @@
 -- A plain base stands for its own list alone.
 use Rattle.std.proofs.Common.{◌≡◌, ℕ, ◌+◌, ◌^◌, ◌≤◌, ◌<◌, ◌++◌, Option, length, take, refl, sym, ap, ◌∙◌, subst, arith}
 use Rattle.std.proofs.Math.Seq.{take-length}
-use Rattle.journal_base.specs.Journal.{Journal, chain}
+use Rattle.journals.specs.Journal.{Journal, chain}
 use Rattle.journal_base.specs.Legal.{Legal}
-use Rattle.journal_base.specs.Calls.{Goal}
-use Rattle.journal_base.specs.Candidates.{candidates}
+use Rattle.journal_base.specs.Goals.{Goal}
+use Rattle.call_patterns.specs.Candidates.{candidates}
 use Rattle.journal_base.specs.View.{IsSound, Looks, AreSizes, InSeen, entries_by}
 use Rattle.journal_base.specs.Scan.{scan, left, listed}
 use Rattle.journal_base.specs.Plain.{Plain, plain_view}

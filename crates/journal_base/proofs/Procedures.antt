@@ -8,9 +8,9 @@ use Rattle.prolog_terms.specs.declared.entry.Indicator.{Indicator}
 use Rattle.prolog_terms.specs.declared.entry.Kind.{Kind}
 use Rattle.prolog_terms.specs.declared.entry.What.{What}
 use Rattle.prolog_terms.specs.declared.entry.What.TheVariants.{Declare, Add, Erase}
-use Rattle.journal_base.specs.Journal.{Journal, procedures, declaration, numbered_from, number_of, procedure_named, same_indicator}
+use Rattle.journals.specs.Journal.{Journal, procedures, declaration, numbered_from, number_of, procedure_named, same_indicator}
 use Rattle.journal_base.specs.PlainInside.{Found, AreFound}
-use Rattle.journal_base.proofs.Entries.{procedures-push, procedures-same, number_of-after, same-refl, same-equal}
+use Rattle.journals.proofs.Entries.{procedures-push, procedures-same, number_of-after, same-refl, same-equal}
 
 -- a number is that of a procedure
 numbered_within : (n : ℕ) (ds : List (Indicator × Kind)) (i : Indicator) (p : ℕ) → numbered_from n ds i ≡ Some p → p < n + length ds

@@ -3,9 +3,9 @@ use Rattle.std.proofs.Common.{◌≡◌, ℕ, suc, ◌+◌, ◌-◌, ◌*◌, �
 use Rattle.prolog_terms.specs.declared.entry.Entry.{Entry}
 use Rattle.prolog_terms.specs.declared.entry.Clause.{Clause}
 use Rattle.prolog_terms.specs.declared.entry.End.{End}
-use Rattle.journal_base.specs.Journal.{Journal, adds_to, added, is_erased}
-use Rattle.journal_base.specs.Candidates.{head_agrees}
-use Rattle.journal_base.specs.Calls.{Goal}
+use Rattle.journals.specs.Journal.{Journal, adds_to, added, is_erased}
+use Rattle.call_patterns.specs.Candidates.{head_agrees}
+use Rattle.journal_base.specs.Goals.{Goal}
 use Rattle.journal_base.specs.Scan.{place, places, is_candidate, scan, left, adds_here}
 
 pub places-step : (n q : ℕ) → q < 2 * n → places n q ≡ place n q ∷ places n (q + 1)

@@ -3,14 +3,14 @@ use Rattle.std.proofs.Common.{◌≡◌, ℕ, suc, zero, ◌+◌, ◌-◌, ◌*�
 use Rattle.std.proofs.lemmas.List.Elements.{filter-append}
 use Rattle.std.proofs.lemmas.List.Sums.{length-filter, count_by-le-length}
 use Rattle.std.proofs.lemmas.List.{reverse-append, map-append, length-append, length-map}
-use Rattle.journal_base.specs.Numbers.{numbers_from}
+use Rattle.journals.specs.Numbers.{numbers_from}
 use Rattle.prolog_terms.specs.declared.entry.End.{End}
 use Rattle.std.proofs.Common.{nat_lt}
 use Rattle.std.proofs.lemmas.Bool.Decides.{nat_tests}
 use Rattle.prolog_terms.specs.declared.entry.End.TheVariants.{Front, Back}
-use Rattle.journal_base.specs.Journal.{Journal, adds_at, additions, chain, is_erased, clause_named}
-use Rattle.journal_base.specs.Candidates.{candidates, head_agrees}
-use Rattle.journal_base.specs.Calls.{Goal}
+use Rattle.journals.specs.Journal.{Journal, adds_at, additions, chain, is_erased, clause_named}
+use Rattle.call_patterns.specs.Candidates.{candidates, head_agrees}
+use Rattle.journal_base.specs.Goals.{Goal}
 use Rattle.journal_base.specs.Scan.{place, places, is_candidate, adds_here, scan, left}
 
 -- ---- lists

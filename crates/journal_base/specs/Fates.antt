@@ -1,7 +1,7 @@
 -- What became of the clauses of a list of entries.
 use Rattle.std.specs.Prelude.{◌≡◌, ℕ, ◌≤◌, nat_lt, List, length, take, Bool, false, Some, None, slice_get}
 use Rattle.std.specs.List.{sum_by}
-use Rattle.journal_base.specs.Journal.{Journal, is_erased, clause_named}
+use Rattle.journals.specs.Journal.{Journal, is_erased, clause_named}
 use Rattle.journal_base.specs.declared.fate.Fate.{Fate}
 use Rattle.journal_base.specs.declared.fate.Fate.TheVariants.{NoClause, Alive, ErasedBy}
 

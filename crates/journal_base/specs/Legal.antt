@@ -10,7 +10,7 @@ use Rattle.prolog_terms.specs.declared.entry.Kind.TheVariants.{Static, Dynamic}
 use Rattle.prolog_terms.specs.declared.entry.What.{What}
 use Rattle.prolog_terms.specs.declared.entry.What.TheVariants.{Declare, Add, Erase}
 use Rattle.journal_base.specs.Space.{used}
-use Rattle.journal_base.specs.Journal.{Journal, procedures, number_of, clause_named, is_erased, procedure_of}
+use Rattle.journals.specs.Journal.{Journal, procedures, number_of, clause_named, is_erased, procedure_of}
 
 -- a static procedure is the load's alone, which is engine 0
 abbrev pub MayChange : Kind → ℕ → Type 0

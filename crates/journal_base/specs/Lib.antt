@@ -1,18 +1,9 @@
-pub mod Numbers
-pub mod Keys
-pub mod Journal
 pub mod Legal
-pub mod Candidates
 pub mod Space
 pub mod View
-pub mod Calls
 pub mod Goals
 pub mod Looks
 pub mod Updates
-pub mod Places
-pub mod Wanted
-pub mod NodeKey
-pub mod Filling
 pub mod Fates
 pub mod Held
 pub mod Ledgers
@@ -20,3 +11,4 @@ pub mod Scan
 pub mod Plain
 pub mod PlainCursor
 pub mod PlainInside
+pub mod Examples

@@ -1,7 +1,7 @@
 -- What a look may say of itself, and how many clauses it may visit (docs/LANGUAGE.md, "The database").
 use Rattle.std.specs.Prelude.{◌≡◌, ◌≢◌, ℕ, ◌+◌, ◌<◌, ◌≤◌, length, List, [], ◌∷◌, take, Contains, Option, Some, None, IfSome}
-use Rattle.journal_base.specs.Journal.{Journal, chain}
-use Rattle.journal_base.specs.Calls.{Goal}
+use Rattle.journals.specs.Journal.{Journal, chain}
+use Rattle.journal_base.specs.Goals.{Goal}
 use Rattle.journal_base.specs.declared.cause.How.{How}
 use Rattle.journal_base.specs.declared.cause.How.TheVariants.{Indexed, Scanned}
 use Rattle.journal_base.specs.declared.cause.Cause.{Cause}

@@ -1,8 +1,8 @@
 -- The cursor of a plain base: the next clause, and the place of the scan behind it.
 use Rattle.std.specs.Prelude.{◌≡◌, ℕ, ◌*◌, ◌≤◌, List, [], ◌++◌, length, take, None}
 use Rattle.std.proofs.Common.{ap}
-use Rattle.journal_base.specs.Journal.{Journal}
-use Rattle.journal_base.specs.Calls.{Goal}
+use Rattle.journals.specs.Journal.{Journal}
+use Rattle.journal_base.specs.Goals.{Goal}
 use Rattle.journal_base.specs.Plain.{Plain}
 use Rattle.journal_base.specs.Scan.{scan, left, listed}
 use Rattle.journal_base.specs.declared.plain.PlainCursor.{PlainCursor}

@@ -5,7 +5,7 @@ use Rattle.std.specs.declared.hash.FoldHasher.{FoldHasher}
 use Rattle.std.specs.declared.hash.BuildHasherDefault.{BuildHasherDefault}
 use Rattle.prolog_terms.specs.declared.entry.Indicator.{Indicator}
 use Rattle.prolog_terms.specs.declared.entry.Kind.{Kind}
-use Rattle.journal_base.specs.Journal.{Journal, procedures, same_indicator, procedure_named}
+use Rattle.journals.specs.Journal.{Journal, procedures, same_indicator, procedure_named}
 use Rattle.journal_base.specs.Legal.{Legal}
 use Rattle.journal_base.specs.Space.{used}
 use Rattle.journal_base.specs.View.{AreSizes}

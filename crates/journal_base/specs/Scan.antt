@@ -3,10 +3,10 @@
 use Rattle.std.specs.Prelude.{ℕ, ◌-◌, ◌*◌, nat_lt, List, [], ◌∷◌, length, map, filter, Bool, ◌&&◌, not, Option, Some, None, if◌then◌else◌}
 use Rattle.prolog_terms.specs.declared.entry.End.{End}
 use Rattle.prolog_terms.specs.declared.entry.End.TheVariants.{Front, Back}
-use Rattle.journal_base.specs.Numbers.{numbers_from}
-use Rattle.journal_base.specs.Journal.{Journal, adds_at, is_erased, clause_named}
-use Rattle.journal_base.specs.Candidates.{head_agrees}
-use Rattle.journal_base.specs.Calls.{Goal}
+use Rattle.journals.specs.Numbers.{numbers_from}
+use Rattle.journals.specs.Journal.{Journal, adds_at, is_erased, clause_named}
+use Rattle.call_patterns.specs.Candidates.{head_agrees}
+use Rattle.journal_base.specs.Goals.{Goal}
 
 -- the place q of the scan of n entries: an end, and the entry that is looked at there
 unfoldable pub place : ℕ → ℕ → End × ℕ

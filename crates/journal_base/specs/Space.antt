@@ -8,8 +8,8 @@ use Rattle.prolog_terms.specs.declared.node.Node.TheVariants.{Var, Int, Atom, Fu
 use Rattle.prolog_terms.specs.declared.entry.Clause.{Clause}
 use Rattle.prolog_terms.specs.declared.entry.What.{What}
 use Rattle.prolog_terms.specs.declared.entry.What.TheVariants.{Declare, Add, Erase}
-use Rattle.journal_base.specs.Keys.{keys}
-use Rattle.journal_base.specs.Journal.{Journal}
+use Rattle.call_patterns.specs.Keys.{keys}
+use Rattle.journals.specs.Journal.{Journal}
 
 -- eight bytes of a text to a word
 abbrev pub text_words : ℕ → ℕ

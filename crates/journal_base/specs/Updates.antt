@@ -5,7 +5,7 @@ use Rattle.prolog_terms.specs.declared.entry.Indicator.{Indicator}
 use Rattle.prolog_terms.specs.declared.entry.Entry.{Entry}
 use Rattle.prolog_terms.specs.declared.entry.What.{What}
 use Rattle.prolog_terms.specs.declared.entry.What.TheVariants.{Declare, Erase}
-use Rattle.journal_base.specs.Journal.{procedure_named, is_erased, erases}
+use Rattle.journals.specs.Journal.{procedure_named, is_erased, erases}
 use Rattle.journal_base.specs.Space.{used, need}
 use Rattle.journal_base.specs.View.{View, Looks, Appends, InSeen}
 use Rattle.journal_base.specs.declared.answers.Declared.{Declared}

@@ -1,13 +1,14 @@
 // A database: a journal that may only grow, and looks for the clauses that a goal could match.
 ghost use Rattle.std.specs.Prelude.{◌≡◌, ℕ, ◌+◌, ◌^◌, ◌<◌, ◌≤◌, List, length, take, IfOk, Some, IsSome};
 ghost use Rattle.prolog_terms.specs.declared.entry.What.TheVariants.{Declare, Add, Erase};
-ghost use Rattle.journal_base.specs.Journal.{Journal, procedures, clause_named, procedure_named};
+ghost use Rattle.journals.specs.Journal.{Journal, procedures, clause_named, procedure_named};
 ghost use Rattle.journal_base.specs.Legal.{MayChange, MayChangeClause, MayAdd};
-ghost use Rattle.journal_base.specs.Candidates.{candidates};
-ghost use Rattle.journal_base.specs.Calls.{AreKeysOf, Goal};
+ghost use Rattle.call_patterns.specs.Candidates.{candidates};
+ghost use Rattle.call_patterns.specs.Calls.{AreKeysOf};
+ghost use Rattle.journal_base.specs.Goals.{Goal};
 ghost use Rattle.journal_base.specs.View.{View, IsSound, Looks, InSeen, Out, opened, Gives, has_more};
 
-use crate::{Added, Call, Declared, Erased, How, Tally};
+use crate::{Added, Call, Declared, Erased, How, Sizes, Tally};
 use prolog_terms::{Clause, End, Indicator, Kind, Want};
 use std::sync::Wait;
 
@@ -64,6 +65,11 @@ pub trait Base: Drop {
     /// The engine that it serves.
     fn number(&self) -> u32
         ensures { result ≡ (view self.now).number };
+
+    /// How many words its journal may use, and how many updates it may have.
+    fn limits(&self) -> Sizes
+        ensures words { result.words ≡ (view self.now).words }
+        ensures updates { result.updates ≡ (view self.now).updates };
 
     /// Looks up the clauses of a procedure that could match a goal, at the front of that moment: exactly its candidates, in
     /// order. The tally counts the look, and how its clauses were found.

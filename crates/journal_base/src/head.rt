@@ -2,15 +2,15 @@
 ghost use Rattle.std.specs.Prelude.{◌≡◌, ◌<◌, length, IsTrue, option_and_then, option_map, Some, slice_get};
 ghost use Rattle.std.specs.Option.{option_copied};
 ghost use Rattle.prolog_terms.specs.Flat.{are_trees};
-ghost use Rattle.journal_base.specs.Keys.{key as key_in, keys_agree};
-ghost use Rattle.journal_base.specs.Places.{tree_at};
-ghost use Rattle.journal_base.specs.Calls.{AreKeysOf, IsKeyOf, key_of};
-ghost use Rattle.journal_base.specs.Candidates.{head_agrees as agrees};
-ghost use Rattle.journal_base.specs.NodeKey.{node_key};
+ghost use Rattle.call_patterns.specs.Keys.{key as key_in, keys_agree};
+ghost use Rattle.call_patterns.specs.Places.{tree_at};
+ghost use Rattle.call_patterns.specs.Calls.{AreKeysOf, IsKeyOf, key_of};
+ghost use Rattle.call_patterns.specs.Candidates.{head_agrees as agrees};
+ghost use Rattle.call_patterns.specs.NodeKey.{node_key};
 ghost use Rattle.journal_base.specs.Goals.{goal_of};
 
-use crate::walk::position_at;
-use crate::{Call, Key, Keys};
+use crate::Call;
+use call_patterns::{Key, Keys, position_at};
 use prolog_terms::{Clause, Names, Node};
 
 /// How many positions a term has.

@@ -2,7 +2,7 @@
 ghost use Rattle.std.specs.Prelude.{◌≡◌, ◌≤◌, ◌<◌, ◌+◌, ◌++◌, ◌∷◌, [], OnOk, IfSome, IsSome, Some, None, true, false, length, slice_get};
 ghost use Rattle.prolog_terms.specs.declared.entry.What.TheVariants.{Declare, Add, Erase};
 ghost use Rattle.prolog_terms.specs.declared.entry.Entry.{Entry as AnEntry};
-ghost use Rattle.journal_base.specs.Journal.{clause_named, is_erased, erases};
+ghost use Rattle.journals.specs.Journal.{clause_named, is_erased, erases};
 
 use crate::fate::{Fate, fate_at};
 use prolog_terms::{Clause, End, Entries, Entry, Indicator, Kind, Want, What};

@@ -3,7 +3,7 @@ ghost use Rattle.std.specs.Prelude.{◌≡◌, ◌≢◌, ◌≤◌, ◌<◌, �
 ghost use Rattle.std.specs.HashMap.{get, Updates, spare};
 ghost use Rattle.prolog_terms.specs.declared.entry.Indicator.{Indicator as AnIndicator};
 ghost use Rattle.prolog_terms.specs.declared.entry.What.TheVariants.{Add};
-ghost use Rattle.journal_base.specs.Journal.{clause_named, same_indicator};
+ghost use Rattle.journals.specs.Journal.{clause_named, same_indicator};
 ghost use Rattle.journal_base.specs.Legal.{MayChange, MayChangeClause, MayAdd};
 ghost use Rattle.journal_base.specs.Space.{clause_words};
 ghost use Rattle.journal_base.specs.View.{AreSizes, InSeen, Looks};
@@ -227,6 +227,13 @@ impl Base for PlainBase {
 
     fn number(&self) -> u32 {
         self.number
+    }
+
+    fn limits(&self) -> Sizes {
+        Sizes {
+            words: self.words,
+            updates: self.updates,
+        }
     }
 
     fn look(&mut self, call: &Call, tally: &mut Tally) -> Look<PlainCursor> {

@@ -3,17 +3,16 @@ ghost use Rattle.std.specs.Prelude.{◌≡◌, ◌<◌, ◌^◌, IfOk, Some, IsS
 ghost use Rattle.prolog_terms.specs.Indicators.{indicator_of};
 ghost use Rattle.prolog_terms.specs.Clauses.{IsClause};
 ghost use Rattle.prolog_terms.specs.Flat.{nodes as nodes_of};
-ghost use Rattle.journal_base.specs.Journal.{clause_named};
+ghost use Rattle.journals.specs.Journal.{clause_named};
 ghost use Rattle.journal_base.specs.View.{AreSizes};
-ghost use Rattle.journal_base.specs.Calls.{AreKeysOf, Goal};
+ghost use Rattle.call_patterns.specs.Calls.{AreKeysOf};
 ghost use Rattle.journal_base.specs.Plain.{IsContinued};
 ghost use Rattle.journal_base.specs.PlainCursor.{plain_serves};
 ghost use Rattle.journal_base.specs.declared.plain.PlainCursor.{PlainCursor};
-ghost use Rattle.journal_base.specs.Goals.{goal_of};
+ghost use Rattle.journal_base.specs.Goals.{Goal, goal_of};
 
-use crate::{
-    Added, Base, Call, Cause, Declared, Erased, How, Look, PlainBase, Sizes, Tally, keys_of,
-};
+use crate::{Added, Base, Call, Cause, Declared, Erased, How, Look, PlainBase, Sizes, Tally};
+use call_patterns::keys_of;
 use prolog_terms::{
     Clause, End, Entry, Indicator, Kind, Name, Names, Node, Term, Want, What, Whole,
 };

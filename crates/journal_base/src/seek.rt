@@ -1,8 +1,8 @@
 // The scan for the next clause that a goal could match.
 ghost use Rattle.std.specs.Prelude.{◌≡◌, ◌+◌, ◌*◌, ◌^◌, ◌<◌, ◌≤◌, ◌++◌, [], length, None, Some, IfSome, MatchOption, true, false, ◌-◌, slice_get};
 ghost use Rattle.prolog_terms.specs.declared.entry.End.TheVariants.{Front, Back};
-ghost use Rattle.journal_base.specs.Journal.{added, adds_to, is_erased};
-ghost use Rattle.journal_base.specs.Calls.{AreKeysOf};
+ghost use Rattle.journals.specs.Journal.{added, adds_to, is_erased};
+ghost use Rattle.call_patterns.specs.Calls.{AreKeysOf};
 ghost use Rattle.journal_base.specs.Fates.{AreToldBy};
 ghost use Rattle.journal_base.specs.Goals.{goal_of};
 ghost use Rattle.journal_base.specs.Looks.{given};

@@ -3,12 +3,12 @@ ghost use Rattle.std.specs.Prelude.{◌≡◌, ◌+◌, ◌<◌, ◌≤◌, leng
 ghost use Rattle.std.specs.List.{sum_by};
 ghost use Rattle.std.specs.Option.{option_copied};
 ghost use Rattle.prolog_terms.specs.Flat.{are_trees, tree};
-ghost use Rattle.journal_base.specs.Keys.{keys};
-ghost use Rattle.journal_base.specs.NodeKey.{place_key};
+ghost use Rattle.call_patterns.specs.Keys.{keys};
+ghost use Rattle.call_patterns.specs.NodeKey.{place_key};
 ghost use Rattle.journal_base.specs.Space.{text_words as words_of_text, node_words as words_of_node, clause_words as words_of_clause};
 
 use crate::head::POSITIONS;
-use crate::walk::position_at;
+use call_patterns::position_at;
 use prolog_terms::{Clause, Indicator, Node};
 
 /// The words of a text: eight bytes to a word.

@@ -13,7 +13,7 @@ use Rattle.prolog_clauses.specs.Flat.{begins_with}
 use Rattle.prolog_terms.specs.Substitutions.{occurs}
 use Rattle.prolog_clauses.specs.declared.directive.Directive.{Directive}
 use Rattle.prolog_clauses.specs.declared.directive.Directive.TheVariants.{Nothing}
-use Rattle.prolog_clauses.specs.Directives.{argument, once, says_nothing, kept_or_run, of_query, of_directive, by_declaring, directive_of, IsGoalOf, IsReady}
+use Rattle.prolog_clauses.specs.Directives.{argument, once, says_nothing, kept_or_run, dynamic_or_goal, of_query, of_directive, by_declaring, directive_of, IsGoalOf, IsReady}
 use Rattle.prolog_clauses.proofs.Lists.{is_prefix, prefix_tree, opened}
 
 pub record ArgumentOf (name : List ℕ) (ns : List Node) : Type 0 where
@@ -114,9 +114,13 @@ kept_ready : (t a : Tree) → argument (codes ":-") t ≡ Some a → (o : Option
 kept_ready t a e (Some g) f = goal_further (codes ":-") t a (once g) e (once_goal (codes "initialization") a g f)
 kept_ready t a e None f = once_whole t a e
 
-goal_ready : (t a : Tree) → argument (codes ":-") t ≡ Some a → (b : Bool) → IsReady t (if b then Nothing else kept_or_run (argument (codes "initialization") a) a)
+dynamic_ready : (t a : Tree) → argument (codes ":-") t ≡ Some a → (o : Option Tree) → IsReady t (dynamic_or_goal o a)
+dynamic_ready t a e (Some specs) = tt
+dynamic_ready t a e None = kept_ready t a e (argument (codes "initialization") a) refl
+
+goal_ready : (t a : Tree) → argument (codes ":-") t ≡ Some a → (b : Bool) → IsReady t (if b then Nothing else dynamic_or_goal (argument (codes "dynamic") a) a)
 goal_ready t a e true = tt
-goal_ready t a e false = kept_ready t a e (argument (codes "initialization") a) refl
+goal_ready t a e false = dynamic_ready t a e (argument (codes "dynamic") a)
 
 query_ready : (t : Tree) (o : Option Tree) → argument (codes "?-") t ≡ o → IfSome (of_query o) (IsReady t)
 query_ready t None e = tt

@@ -14,3 +14,7 @@ mod Firsts
 mod Names
 mod Priorities
 mod Arguments
+mod Indicated
+mod Slashes
+mod Conjuncts
+mod Listings

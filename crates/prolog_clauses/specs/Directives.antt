@@ -4,9 +4,10 @@ use Rattle.prolog_terms.specs.Tree.{Tree, compound, none, more}
 use Rattle.prolog_terms.specs.Clauses.{is_named}
 use Rattle.prolog_terms.specs.Substitutions.{occurs}
 use Rattle.prolog_clauses.specs.Declarations.{declaring_of, HasPriority}
+use Rattle.prolog_clauses.specs.Dynamics.{dynamics_of}
 use Rattle.prolog_clauses.specs.declared.operators.Declaring.{Declaring}
 use Rattle.prolog_clauses.specs.declared.directive.Directive.{Directive}
-use Rattle.prolog_clauses.specs.declared.directive.Directive.TheVariants.{Operators, Nothing, Kept, Goal}
+use Rattle.prolog_clauses.specs.declared.directive.Directive.TheVariants.{Operators, Dynamic, Nothing, Kept, Goal}
 
 -- the argument of a term of this name that has one
 abbrev pub argument : List ℕ → Tree → Option Tree
@@ -29,9 +30,14 @@ abbrev pub kept_or_run : Option Tree → Tree → Directive
 kept_or_run (Some g) whole = Kept (once g)
 kept_or_run None whole = Goal (once whole)
 
+-- procedures that are declared dynamic, or a goal
+abbrev pub dynamic_or_goal : Option Tree → Tree → Directive
+dynamic_or_goal (Some specs) g = Dynamic (dynamics_of specs)
+dynamic_or_goal None g = kept_or_run (argument (codes "initialization") g) g
+
 -- the directive `:- G` for a G that declares no operators
 abbrev pub of_goal : Tree → Directive
-of_goal g = if says_nothing g then Nothing else kept_or_run (argument (codes "initialization") g) g
+of_goal g = if says_nothing g then Nothing else dynamic_or_goal (argument (codes "dynamic") g) g
 
 -- the query `?- G` is run at its place, whatever G is
 abbrev pub of_query : Option Tree → Option Directive
@@ -57,6 +63,7 @@ pub record IsGoalOf (t goal : Tree) : Type 0 where
 -- what a load may count on: the priority of operators is one that an operator may have, or 0, and a goal is one of the term
 abbrev pub IsReady : Tree → Directive → Type 0
 IsReady t (Operators d) = HasPriority d
+IsReady t (Dynamic d) = Unit {0}
 IsReady t Nothing = Unit {0}
 IsReady t (Kept g) = IsGoalOf t g
 IsReady t (Goal g) = IsGoalOf t g

@@ -3,4 +3,6 @@ pub mod Formed
 pub mod Flat
 pub mod Declarations
 pub mod Cells
+pub mod Dynamics
+pub mod Procedures
 pub mod Directives

@@ -4,6 +4,7 @@ ghost use Rattle.prolog_terms.specs.Flat.{tree, HasPrefixOrder};
 ghost use Rattle.prolog_clauses.specs.Directives as spec;
 
 use crate::clause::term_of;
+use crate::dynamics::{Dynamics, dynamics_of};
 use crate::elements::begins_with;
 use crate::operators::{Declaring, declaring_of};
 use prolog_terms::{Name, Node, Term, Want};
@@ -14,6 +15,8 @@ use std::alloc::Global;
 pub enum Directive {
     /// `:- op(P, T, N)`, and what it comes to.
     Operators(Declaring),
+    /// `:- dynamic(Specs)`, and what it comes to.
+    Dynamic(Dynamics),
     /// `:- discontiguous(_)` or `:- multifile(_)`, which says nothing.
     Nothing,
     /// The goal `once(G)` of `:- initialization(G)`, which is kept for the end of the text.
@@ -54,6 +57,9 @@ fn of_goal(alloc: Global, goal: &[Node]) -> Result<Directive, Want>
 {
     if says_nothing(goal) {
         return Ok(Directive::Nothing);
+    }
+    if let Some(specs) = argument(goal, b"dynamic") {
+        return Ok(Directive::Dynamic(dynamics_of(alloc, specs)?));
     }
     match argument(goal, b"initialization") {
         Some(kept) => Ok(Directive::Kept(once(alloc, kept)?)),

@@ -22,7 +22,7 @@ pub(crate) fn is_variable(nodes: &[Node]) -> bool
 }
 
 /// Whether the term is `[]`.
-fn is_nil(nodes: &[Node]) -> bool
+pub(crate) fn is_nil(nodes: &[Node]) -> bool
     requires { HasPrefixOrder nodes.now }
     ensures { result ≡ spec.is_nil (tree nodes.now) }
 {
@@ -80,14 +80,23 @@ pub(crate) fn has_unbound_element(nodes: &[Node]) -> bool
     false
 }
 
-/// Whether the list ends in `[]`.
-pub(crate) fn ends_in_nil(nodes: &[Node]) -> bool
+/// The nodes of what the list ends with.
+pub(crate) fn list_end(nodes: &[Node]) -> &[Node]
     requires { HasPrefixOrder nodes.now }
-    ensures { result ≡ spec.is_nil (spec.list_end (tree nodes.now)) }
+    ensures ends { tree result.now ≡ spec.list_end (tree nodes.now) }
+    ensures prefix { HasPrefixOrder result.now }
 {
     let mut left = nodes;
     'cells: while let Some((_, rest)) = cell(left) {
         left = rest;
     }
-    is_nil(left)
+    left
+}
+
+/// Whether the list ends in `[]`.
+pub(crate) fn ends_in_nil(nodes: &[Node]) -> bool
+    requires { HasPrefixOrder nodes.now }
+    ensures { result ≡ spec.is_nil (spec.list_end (tree nodes.now)) }
+{
+    is_nil(list_end(nodes))
 }

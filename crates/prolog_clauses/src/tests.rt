@@ -1,8 +1,8 @@
 // Terms, the clauses that they are, and what they come to as directives.
 
 use crate::{
-    Declaration, Declaring, Directive, Formed, clause_of, clauses_are_renamings, declare,
-    declaring_of, directive_of,
+    Declaration, Declaring, Directive, Dynamics, Formed, Indicators, clause_of,
+    clauses_are_renamings, declare, declaring_of, directive_of,
 };
 use prolog_terms::{Clause, Fault, Indicator, Name, Node, OpKind, Ops, Term, Want, fault_term};
 use std::alloc::Global;
@@ -241,8 +241,8 @@ fn directives_come_to_this(rt: HostRuntime) {
     }
 }
 
-/// Rows, each closed by a line's end: a term's nodes, an arrow, and which directive it is: one for operators, one that says
-/// nothing, or the nodes of the goal that is kept or run.
+/// Rows, each closed by a line's end: a term's nodes, an arrow, and which directive it is: one for operators, one for dynamic
+/// procedures, one that says nothing, or the nodes of the goal that is kept or run.
 const WHICH: &str = "\
     p => none
     :- => none
@@ -250,6 +250,10 @@ const WHICH: &str = "\
     :-/2 p q => none
     :-/1 op/3 700 xfx a => operators
     :-/1 op/3 _0 _1 _2 => operators
+    :-/1 dynamic/1 //2 a 1 => dynamic
+    :-/1 dynamic/1 _0 => dynamic
+    :-/1 dynamic/2 a b => run once/1 dynamic/2 a b
+    :-/1 dynamic => run once/1 dynamic
     :-/1 discontiguous/1 _0 => nothing
     :-/1 multifile/1 f/2 1 a => nothing
     :-/1 discontiguous/2 a b => run once/1 discontiguous/2 a b
@@ -264,6 +268,7 @@ const WHICH: &str = "\
     :-/1 ,/2 op/3 700 xfx a true => run once/1 ,/2 op/3 700 xfx a true
     ?-/1 p/1 f/1 _0 => run once/1 p/1 f/1 _0
     ?-/1 op/3 700 xfx a => run once/1 op/3 700 xfx a
+    ?-/1 dynamic/1 //2 a 1 => run once/1 dynamic/1 //2 a 1
     ?-/1 discontiguous/1 a => run once/1 discontiguous/1 a
     ?-/1 initialization/1 p => run once/1 initialization/1 p
     ";
@@ -283,6 +288,7 @@ fn which_holds(alloc: Global, row: &str) -> Result<bool, Want> {
     match directive_of(alloc, &term)? {
         None => Ok(outcome == "none"),
         Some(Directive::Operators(_)) => Ok(outcome == "operators"),
+        Some(Directive::Dynamic(_)) => Ok(outcome == "dynamic"),
         Some(Directive::Nothing) => Ok(outcome == "nothing"),
         Some(Directive::Kept(goal)) => is_goal(alloc, &goal, outcome.strip_prefix("keep ")),
         Some(Directive::Goal(goal)) => is_goal(alloc, &goal, outcome.strip_prefix("run ")),
@@ -295,6 +301,106 @@ fn terms_are_these_directives(rt: HostRuntime) {
         let row = line.trim();
         assert!(rt;
             which_holds(rt.alloc(), row).expect(&rt, "memory"),
+            "at {row}"
+        );
+    }
+}
+
+/// Rows, each closed by a line's end: the nodes of a directive for dynamic procedures, an arrow, and the procedures that it
+/// declares or the nodes of its error.
+const DYNAMICS: &str = "\
+    :-/1 dynamic/1 //2 a 1 => declares a/1
+    :-/1 dynamic/1 //2 a 0 => declares a/0
+    :-/1 dynamic/1 //2 a 255 => declares a/255
+    :-/1 dynamic/1 //2 [] 1 => declares []/1
+    :-/1 dynamic/1 ,/2 //2 a 1 //2 b 2 => declares a/1 b/2
+    :-/1 dynamic/1 ,/2 //2 a 1 ,/2 //2 b 2 //2 c 0 => declares a/1 b/2 c/0
+    :-/1 dynamic/1 ,/2 ,/2 //2 a 1 //2 b 2 //2 c 0 => declares a/1 b/2 c/0
+    :-/1 dynamic/1 ,/2 ,/2 //2 a 1 ,/2 //2 b 2 //2 c 0 ,/2 //2 d 3 //2 a 1 => declares a/1 b/2 c/0 d/3 a/1
+    :-/1 dynamic/1 ./2 //2 a 1 ./2 //2 b 2 [] => declares a/1 b/2
+    :-/1 dynamic/1 ./2 //2 a 1 [] => declares a/1
+    :-/1 dynamic/1 [] => declares
+    :-/1 dynamic/1 _0 => instantiation_error
+    :-/1 dynamic/1 //2 _0 1 => instantiation_error
+    :-/1 dynamic/1 //2 a _0 => instantiation_error
+    :-/1 dynamic/1 //2 f/1 a _0 => instantiation_error
+    :-/1 dynamic/1 //2 _0 f/1 a => instantiation_error
+    :-/1 dynamic/1 ,/2 //2 a 1 _0 => instantiation_error
+    :-/1 dynamic/1 ,/2 1 //2 a _0 => instantiation_error
+    :-/1 dynamic/1 ,/2 ,/2 a b //2 _0 1 => instantiation_error
+    :-/1 dynamic/1 ./2 //2 a 1 _0 => instantiation_error
+    :-/1 dynamic/1 ./2 1 _0 => instantiation_error
+    :-/1 dynamic/1 ./2 1 ./2 _0 [] => instantiation_error
+    :-/1 dynamic/1 ./2 a ./2 //2 b _3 [] => instantiation_error
+    :-/1 dynamic/1 a => type_error/2 predicate_indicator a
+    :-/1 dynamic/1 1 => type_error/2 predicate_indicator 1
+    :-/1 dynamic/1 //2 a -1 => type_error/2 predicate_indicator //2 a -1
+    :-/1 dynamic/1 //2 a 256 => type_error/2 predicate_indicator //2 a 256
+    :-/1 dynamic/1 //2 a b => type_error/2 predicate_indicator //2 a b
+    :-/1 dynamic/1 //2 1 1 => type_error/2 predicate_indicator //2 1 1
+    :-/1 dynamic/1 //2 f/1 _7 1 => type_error/2 predicate_indicator //2 f/1 _0 1
+    :-/1 dynamic/1 //1 a => type_error/2 predicate_indicator //1 a
+    :-/1 dynamic/1 //3 a 1 2 => type_error/2 predicate_indicator //3 a 1 2
+    :-/1 dynamic/1 f/3 _4 _3 _4 => type_error/2 predicate_indicator f/3 _0 _1 _0
+    :-/1 dynamic/1 ,/1 //2 a 1 => type_error/2 predicate_indicator ,/1 //2 a 1
+    :-/1 dynamic/1 ./1 //2 a 1 => type_error/2 predicate_indicator ./1 //2 a 1
+    :-/1 dynamic/1 ,/2 //2 a 1 ,/2 //2 b c //2 d e => type_error/2 predicate_indicator //2 b c
+    :-/1 dynamic/1 ,/2 ,/2 //2 a 1 b //2 c d => type_error/2 predicate_indicator b
+    :-/1 dynamic/1 ./2 //2 a 1 ./2 //2 b 256 ./2 c [] => type_error/2 predicate_indicator //2 b 256
+    :-/1 dynamic/1 ./2 //2 a 1 ./2 ./2 //2 b 1 [] [] => type_error/2 predicate_indicator ./2 //2 b 1 []
+    :-/1 dynamic/1 ./2 ,/2 //2 a 1 //2 b 2 [] => type_error/2 predicate_indicator ,/2 //2 a 1 //2 b 2
+    :-/1 dynamic/1 ./2 ,/2 //2 a 1 _6 [] => type_error/2 predicate_indicator ,/2 //2 a 1 _0
+    :-/1 dynamic/1 ,/2 //2 a 1 ./2 //2 b 2 [] => type_error/2 predicate_indicator ./2 //2 b 2 []
+    :-/1 dynamic/1 ,/2 //2 a 1 ./2 //2 b _5 _9 => type_error/2 predicate_indicator ./2 //2 b _0 _1
+    :-/1 dynamic/1 ,/2 //2 a 1 [] => type_error/2 predicate_indicator []
+    :-/1 dynamic/1 ./2 //2 a 1 b => type_error/2 predicate_indicator ./2 //2 a 1 b
+    :-/1 dynamic/1 ./2 //2 a _8 b => type_error/2 predicate_indicator ./2 //2 a _0 b
+    ";
+
+fn is_word(word: &str, indicator: &Indicator) -> bool {
+    match word.rsplit_once('/') {
+        Some((name, arity)) => {
+            name.as_bytes() == indicator.name.bytes()
+                && arity.parse::<u32>().ok() == Some(indicator.arity)
+        }
+        None => false,
+    }
+}
+
+fn are_words(indicators: &Indicators, row: &str) -> bool {
+    let mut words = row.split(' ');
+    if words.next() != Some("declares") {
+        return false;
+    }
+    for indicator in indicators.items() {
+        match words.next() {
+            Some(word) if is_word(word, indicator) => {}
+            _ => return false,
+        }
+    }
+    words.next().is_none()
+}
+
+fn dynamics_hold(alloc: Global, row: &str) -> Result<bool, Want> {
+    let Some((term, outcome)) = row.split_once(" => ") else {
+        return Ok(row.is_empty());
+    };
+    let term = term_of(alloc, term)?;
+    match directive_of(alloc, &term)? {
+        Some(Directive::Dynamic(Dynamics::Declares(indicators))) => {
+            Ok(are_words(&indicators, outcome))
+        }
+        Some(Directive::Dynamic(Dynamics::Raises(fault))) => is_fault(alloc, &fault, outcome),
+        _ => Ok(false),
+    }
+}
+
+#[test]
+fn procedures_are_declared_dynamic_so(rt: HostRuntime) {
+    for line in DYNAMICS.split('\n') {
+        let row = line.trim();
+        assert!(rt;
+            dynamics_hold(rt.alloc(), row).expect(&rt, "memory"),
             "at {row}"
         );
     }

@@ -14,6 +14,8 @@ use std::io::ErrorKind;
 use std::process::ExitCode;
 
 #[cfg(test)]
+mod database_tests;
+#[cfg(test)]
 mod stream_tests;
 #[cfg(test)]
 mod tests;

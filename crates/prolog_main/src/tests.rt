@@ -19,7 +19,7 @@ const SIZES: Sizes = Sizes {
 };
 
 /// A text, the words, and the status and the output that they lead to.
-type Row = (&'static str, &'static [&'static str], u8, &'static str);
+pub(crate) type Row = (&'static str, &'static [&'static str], u8, &'static str);
 
 const REFUSED: &str = "error: line 1: fault 7.\n";
 
@@ -200,7 +200,7 @@ const NO_CLAUSES: [Row; 23] = [
 ];
 
 // Directives and queries of a text, which engine 0 runs at their places, and goals that are kept for its end.
-const DIRECTIVES: [Row; 20] = [
+const DIRECTIVES: [Row; 19] = [
     (":- fail.\n", &[], 0, "% line 1: false.\n"),
     (":- true.\n?- true.\n", &[], 0, ""),
     (
@@ -256,12 +256,6 @@ const DIRECTIVES: [Row; 20] = [
         &[],
         1,
         "% line 1: error: error(existence_error(procedure,op/2),op/2).\n",
-    ),
-    (
-        ":- dynamic(p/1).\n",
-        &[],
-        1,
-        "% line 1: error: error(existence_error(procedure,(dynamic)/1),(dynamic)/1).\n",
     ),
     (
         ":- discontiguous(p/1).\n:- multifile q/2, r/3.\n:- discontiguous _.\np.\n",
@@ -1909,7 +1903,7 @@ fn status<R: Threads + Wait + Sync, S: Source, K: Sink>(
 }
 
 /// Whether `top` answers as the row says over a base of these sizes, where source and sink take so many bytes a call.
-fn is_answered_in<R: Threads + Wait + Sync>(
+pub(crate) fn is_answered_in<R: Threads + Wait + Sync>(
     rt: &R,
     alloc: Global,
     sizes: Sizes,
@@ -1939,7 +1933,7 @@ fn is_answered<R: Threads + Wait + Sync>(
 }
 
 /// Whether each row is answered, where source and sink take from one to three bytes a call.
-fn expect_rows<R: Threads + Wait + Sync + Abort>(rt: &R, alloc: Global, rows: &[Row]) {
+pub(crate) fn expect_rows<R: Threads + Wait + Sync + Abort>(rt: &R, alloc: Global, rows: &[Row]) {
     for row in rows {
         for step in 1..4 {
             assert_eq!(rt; is_answered(rt, alloc, row, step), Ok(true), "{}", row.0);

@@ -1,7 +1,7 @@
--- A clause that is added to a journal, where it has room.
+-- What the load adds to a journal, where it has room.
 use Rattle.std.proofs.Common.{◌≡◌, ◌⊎◌, inl, inr, ℕ, suc, ◌+◌, ◌≤◌, ◌<◌, List, [], ◌∷◌, ◌++◌, length, Bool, true, false, Option, Some, None, refl, sym, ◌∙◌, ap, subst, arith, slice_get, length-append}
-use Rattle.std.specs.Prelude.{if◌then◌else◌, ◌&&◌, nat_le, nat_lt, option_and_then, option_map}
-use Rattle.std.proofs.lemmas.Bool.{and_from, and_parts, le-leb, lt-leb, lt-ltb, le-ltb, leb-true, ltb-true}
+use Rattle.std.specs.Prelude.{if◌then◌else◌, ◌&&◌, ◌||◌, nat_le, nat_lt, option_and_then, option_map}
+use Rattle.std.proofs.lemmas.Bool.{and_from, le-leb, lt-leb, lt-ltb, le-ltb}
 use Rattle.prolog_terms.specs.Indicators.{indicator_of}
 use Rattle.prolog_terms.specs.Clauses.{IsClause}
 use Rattle.prolog_terms.specs.declared.entry.Clause.{Clause}
@@ -11,12 +11,14 @@ use Rattle.prolog_terms.specs.declared.entry.What.{What}
 use Rattle.prolog_terms.specs.declared.entry.What.TheVariants.{Declare, Add}
 use Rattle.prolog_terms.specs.declared.entry.Kind.{Kind}
 use Rattle.prolog_terms.specs.declared.entry.Kind.TheVariants.{Static, Dynamic}
-use Rattle.journal_base.specs.Journal.{Journal, procedures, numbered_from, number_of, procedure_named, same_indicator}
+use Rattle.journals.specs.Journal.{Journal, procedures, numbered_from, number_of, procedure_named, same_indicator}
 use Rattle.journal_base.specs.Space.{used, need}
-use Rattle.journal_base.specs.Legal.{Legal, MayAdd, MayChange, MayFollow}
+use Rattle.journal_base.specs.Legal.{Legal, MayAdd, MayChange}
 use Rattle.journal_base.specs.declared.sizes.Sizes.{Sizes}
-use Rattle.journal_base.proofs.Entries.{Legal-push, used-push, number_of-after, same-equal, same-refl}
-use Rattle.prolog_session.specs.Load.{by_load, has_room, placed, placed_if, placed_behind, with_clause, with_procedure, with_procedure_of, number_or_next}
+use Rattle.journals.proofs.Entries.{number_of-after, same-equal, same-refl}
+use Rattle.journal_base.proofs.Entries.{used-push}
+use Rattle.wam_machine.specs.Reserved.{is_reserved}
+use Rattle.prolog_session.specs.Load.{by_load, has_room, Placed, placed, placed_if, placed_behind, with_clause, with_procedure, with_procedure_of, number_or_next, with_dynamic, with_dynamic_of, with_dynamics, is_static, is_fixed, first_fixed}
 
 -- the procedure that was found stands so many places on
 record IsFound (ds : List (Indicator × Kind)) (i : Indicator) (n p : ℕ) : Type 0 where
@@ -113,21 +115,7 @@ no_room sizes J what (inr full) =
     and_false true = refl
     and_false false = refl
 
-Legal-placed : (sizes : Sizes) (J : Journal) (what : What) → Legal sizes.words sizes.updates J → MayFollow J 0 what → Legal sizes.words sizes.updates (placed sizes J what).journal
-Legal-placed sizes J what legal may = go (has_room sizes J what) refl
-  where
-    go : (b : Bool) → has_room sizes J what ≡ b → Legal sizes.words sizes.updates (placed_if b J what).journal
-    go true e =
-        let both = and_parts (nat_le (used J + need what) sizes.words) (nat_lt (length J) sizes.updates) e in
-        let fits : used J + need what ≤ sizes.words = leb-true (used J + need what) sizes.words both.0 in
-        let few : length J < sizes.updates = ltb-true (length J) sizes.updates both.1 in
-        Legal-push sizes.words sizes.updates J (by_load what) legal may fits (omega arith)
-    go false e = legal
-
--- the procedure is declared, and has its number
-record IsReady (sizes : Sizes) (J : Journal) (i : Indicator) (o : Option ℕ) : Type 0 where
-  legal : Legal sizes.words sizes.updates (with_procedure_of sizes J i o).journal
-  number : (with_procedure_of sizes J i o).fits ≡ true → number_of (with_procedure_of sizes J i o).journal i ≡ Some (number_or_next J o)
+-- ---- a procedure that is declared
 
 next-number : (J : Journal) (i : Indicator) → number_of J i ≡ None → number_of (J ++ by_load (Declare i Static) ∷ []) i ≡ Some (length (procedures J))
 next-number J i absent = number_of-after J (by_load (Declare i Static)) i Static i refl absent ∙ rw (same-refl i) refl
@@ -140,25 +128,6 @@ number-ready sizes J i None absent fits = go (has_room sizes J (Declare i Static
     go : (b : Bool) → (placed_if b J (Declare i Static)).fits ≡ true → number_of (placed_if b J (Declare i Static)).journal i ≡ Some (length (procedures J))
     go true e = next-number J i absent
     go false e = absurd cc
-
-ready : (sizes : Sizes) (J : Journal) (i : Indicator) (o : Option ℕ) → Legal sizes.words sizes.updates J → number_of J i ≡ o → IsReady sizes J i o
-ready sizes J i (Some p) legal is = record { legal = legal; number = number-ready sizes J i (Some p) is }
-ready sizes J i None legal absent = record {
-  legal = Legal-placed sizes J (Declare i Static) legal (absent, refl);
-  number = number-ready sizes J i None absent;
-}
-
-pub Legal-with_clause : (sizes : Sizes) (J : Journal) (i : Indicator) (c : Clause) → Legal sizes.words sizes.updates J → indicator_of c.head ≡ Some i
-    → IsClause c → Legal sizes.words sizes.updates (with_clause sizes J i c).journal
-Legal-with_clause sizes J i c legal named clause = go (with_procedure sizes J i).fits refl
-  where
-    go : (b : Bool) → (with_procedure sizes J i).fits ≡ b
-        → Legal sizes.words sizes.updates (if b then placed sizes (with_procedure sizes J i).journal (Add Back (number_or_next J (number_of J i)) c) else with_procedure sizes J i).journal
-    go true e =
-        let r = ready sizes J i (number_of J i) legal refl in
-        Legal-placed sizes (with_procedure sizes J i).journal (Add Back (number_or_next J (number_of J i)) c) r.legal
-        (may_add (with_procedure sizes J i).journal (number_or_next J (number_of J i)) i c (r.number e) named clause)
-    go false e = (ready sizes J i (number_of J i) legal refl).legal
 
 -- ---- what the load's base holds
 
@@ -192,3 +161,36 @@ clause_placed sizes J i c p b fits number r =
 pub clause_left : (sizes : Sizes) (J : Journal) (i : Indicator) (c : Clause) → (with_procedure sizes J i).fits ≡ false → with_clause sizes J i c ≡ with_procedure sizes J i
 clause_left sizes J i c fits =
     ap (λ (b : Bool). if b then placed sizes (with_procedure sizes J i).journal (Add Back (number_or_next J (number_of J i)) c) else with_procedure sizes J i) fits
+
+-- ---- procedures that are declared dynamic
+
+pub number-unnamed : (J : Journal) (i : Indicator) → number_of J i ≡ None → procedure_named J i ≡ None
+number-unnamed J i h = ap (option_and_then (kind_at (procedures J))) h
+
+pub dynamic-before : (sizes : Sizes) (J : Journal) (i : Indicator) (d : ℕ × Kind) → procedure_named J i ≡ Some d → with_dynamic sizes J i ≡ record { journal = J; fits = true }
+dynamic-before sizes J i d h = ap (with_dynamic_of sizes J i) h
+
+pub dynamic-now : (sizes : Sizes) (J : Journal) (i : Indicator) (b : Bool) → procedure_named J i ≡ None → has_room sizes J (Declare i Dynamic) ≡ b
+    → with_dynamic sizes J i ≡ placed_if b J (Declare i Dynamic)
+dynamic-now sizes J i b h r = ap (with_dynamic_of sizes J i) h ∙ ap (λ (b : Bool). placed_if b J (Declare i Dynamic)) r
+
+-- one that had no room is the last
+pub dynamics-full : (sizes : Sizes) (J : Journal) (is : List Indicator) → with_dynamics sizes (record { journal = J; fits = false }) is ≡ record { journal = J; fits = false }
+dynamics-full sizes J [] = refl
+dynamics-full sizes J (i ∷ is) = refl
+
+-- the first of them, and those behind it
+pub dynamics-step : (sizes : Sizes) (J : Journal) (i : Indicator) (is : List Indicator) (p : Placed) → with_dynamic sizes J i ≡ p
+    → with_dynamics sizes (record { journal = J; fits = true }) (i ∷ is) ≡ with_dynamics sizes p is
+dynamics-step sizes J i is p e = ap (λ (q : Placed). with_dynamics sizes q is) e
+
+-- ---- procedures that may not be dynamic
+
+pub fixed-or : (J : Journal) (i : Indicator) (b : Bool) → is_reserved i ≡ false → is_static (procedure_named J i) ≡ b → is_fixed J i ≡ b
+fixed-or J i b reserved static = ap (λ (r : Bool). r || is_static (procedure_named J i)) reserved ∙ static
+
+pub fixed-reserved : (J : Journal) (i : Indicator) → is_reserved i ≡ true → is_fixed J i ≡ true
+fixed-reserved J i reserved = ap (λ (r : Bool). r || is_static (procedure_named J i)) reserved
+
+pub fixed-first : (J : Journal) (i : Indicator) (is : List Indicator) (b : Bool) → is_fixed J i ≡ b → first_fixed J (i ∷ is) ≡ (if b then Some i else first_fixed J is)
+fixed-first J i is b e = ap (λ (b : Bool). if b then Some i else first_fixed J is) e

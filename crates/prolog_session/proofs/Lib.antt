@@ -3,6 +3,7 @@ pub mod Plains
 pub mod Ran
 pub mod Facts
 pub mod Placing
+pub mod Dynamics
 pub mod Loads
 pub mod Takings
 pub mod Parts
@@ -12,4 +13,3 @@ pub mod Answered
 pub mod Rows
 pub mod Outcomes
 pub mod Under
-pub mod OthersAreCalled

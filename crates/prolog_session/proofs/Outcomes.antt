@@ -6,7 +6,7 @@ use Rattle.std.specs.declared.result.Result.{Result}
 use Rattle.std.specs.Io.KnownBytes.{Appends, Keeps}
 use Rattle.prolog_terms.specs.Operators.{Table}
 use Rattle.prolog_terms.specs.declared.want.Want.{Want}
-use Rattle.journal_base.specs.Journal.{Journal}
+use Rattle.journals.specs.Journal.{Journal}
 use Rattle.journal_base.specs.Legal.{Legal}
 use Rattle.journal_base.specs.declared.sizes.Sizes.{Sizes}
 use Rattle.wam_machine.specs.declared.run.Run.{Run}
@@ -25,7 +25,6 @@ use Rattle.prolog_session.specs.Output.{load_text, output_of}
 use Rattle.prolog_session.specs.Runs.{AreRunsBehind}
 use Rattle.prolog_session.specs.Prepared.{Prepares, status_before}
 use Rattle.prolog_session.specs.Ends.{final_status, final_journal, final_runs, final_operators, runs_left, shown}
-use Rattle.prolog_session.proofs.Loads.{Legal-journal_of}
 use Rattle.prolog_session.proofs.Rows.{status_small, is_not, run_is_not, run_is_not_2, run_is_not_3, run_is_not_4, run_is_not_5, run_is_not_8, not_ran, told_long, told_fits, told_loads, told_refusal, told_operators, told_text}
 
 -- ---- the outcome
@@ -77,7 +76,10 @@ runs_told sizes command None sn journal runs o h = tt
 runs_told sizes command (Some bytes) sn journal runs None h = absurd h
 runs_told sizes command (Some bytes) sn journal runs (Some ops) h =
     let P : Option Command → Type 0 = λ c. IfSome c (λ asked. AreRunsOf sizes bytes asked journal runs) in
-    subst P (sym h.asked_is) (record { loads = h.loads; of_load = told_loads sizes h.asked.steps bytes sn journal h.loads None h.loaded; behind = subst (λ (o : Table). AreRunsBehind o h.loads h.asked journal runs) (h.operators ∙ ap operators_of (told_text bytes sn h.loaded.text h.loaded.took)) h.runs_are })
+    let of_load : IsLoadOf sizes h.asked.steps bytes h.first h.loads = told_loads sizes h.asked.steps bytes sn h.first h.loads None h.loaded in
+    let told : ops ≡ operators_of bytes = h.operators ∙ ap operators_of (told_text bytes sn h.loaded.text h.loaded.took) in
+    let behind : AreRunsBehind sizes (operators_of bytes) h.loads h.first h.asked journal runs = subst (λ (o : Table). AreRunsBehind sizes o h.loads h.first h.asked journal runs) told h.runs_are in
+    subst P (sym h.asked_is) (record { loads = h.loads; loaded = h.first; of_load = of_load; behind = behind })
 
 -- where neither the journal nor the runs are told, the status is none of these
 record IsApart (k : ℕ) : Type 0 where
@@ -126,13 +128,9 @@ operators_row sizes command (Some bytes) sn (Ok (Refused journal runs ops refusa
 operators_row sizes command (Some bytes) sn (Ok (Refused journal runs ops refusal)) Cut h e =
     ap Some (h.operators ∙ told_operators sizes h.asked.steps bytes sn journal runs (Some refusal) h.loaded)
 operators_row sizes command (Some bytes) sn (Ok (Ran journal runs ops)) Wrote h e =
-    ap Some (h.operators ∙ told_operators sizes h.asked.steps bytes sn journal h.loads None h.loaded)
+    ap Some (h.operators ∙ told_operators sizes h.asked.steps bytes sn h.first h.loads None h.loaded)
 operators_row sizes command (Some bytes) sn (Ok (Ran journal runs ops)) Cut h e =
-    ap Some (h.operators ∙ told_operators sizes h.asked.steps bytes sn journal h.loads None h.loaded)
-
-loaded_legal : (sizes : Sizes) (budget : ℕ) (so sn : Option (List ℕ)) (journal : Journal) (runs : List Run) (refused : Option Refusal) → HasLoaded sizes budget so sn journal runs refused
-    → Legal sizes.words sizes.updates journal
-loaded_legal sizes budget so sn journal runs refused h = subst (Legal sizes.words sizes.updates) (sym h.journal_is) (Legal-journal_of sizes h.text)
+    ap Some (h.operators ∙ told_operators sizes h.asked.steps bytes sn h.first h.loads None h.loaded)
 
 pub legal_row : (sizes : Sizes) (command : Option Command) (so sn : Option (List ℕ)) (p : Result Prepared Want) (w : Written) →
     IfOk p (Prepares sizes command so sn) → IsLoaded (final_status p w) → Legal sizes.words sizes.updates (final_journal p w)
@@ -144,10 +142,10 @@ legal_row sizes command so sn (Ok SourceFailed) Wrote h e = absurd (not_loaded 4
 legal_row sizes command so sn (Ok SourceFailed) Cut h e = absurd (not_loaded 4 (inr (inl refl)) e)
 legal_row sizes command so sn (Ok TooLong) Wrote h e = absurd (not_loaded 8 (inr (inr (inr refl))) e)
 legal_row sizes command so sn (Ok TooLong) Cut h e = absurd (not_loaded 8 (inr (inr (inr refl))) e)
-legal_row sizes command so sn (Ok (Refused journal runs ops refusal)) Wrote h e = loaded_legal sizes h.asked.steps so sn journal runs (Some refusal) h.loaded
-legal_row sizes command so sn (Ok (Refused journal runs ops refusal)) Cut h e = loaded_legal sizes h.asked.steps so sn journal runs (Some refusal) h.loaded
-legal_row sizes command so sn (Ok (Ran journal runs ops)) Wrote h e = loaded_legal sizes h.asked.steps so sn journal h.loads None h.loaded
-legal_row sizes command so sn (Ok (Ran journal runs ops)) Cut h e = loaded_legal sizes h.asked.steps so sn journal h.loads None h.loaded
+legal_row sizes command so sn (Ok (Refused journal runs ops refusal)) Wrote h e = h.loaded.legal
+legal_row sizes command so sn (Ok (Refused journal runs ops refusal)) Cut h e = h.loaded.legal
+legal_row sizes command so sn (Ok (Ran journal runs ops)) Wrote h e = h.legal
+legal_row sizes command so sn (Ok (Ran journal runs ops)) Cut h e = h.legal
 
 -- ---- what the sink gained
 
@@ -291,7 +289,7 @@ expected_told sizes command bytes sn TooLong other h = sym (taken command bytes 
 expected_told sizes command bytes sn (Refused journal runs ops refusal) other h =
     sym (expected_loaded sizes h.asked.steps command bytes sn journal runs (Some refusal) runs (is_some command h.asked h.asked_is) h.loaded)
 expected_told sizes command bytes sn (Ran journal runs ops) other h =
-    sym (expected_loaded sizes h.asked.steps command bytes sn journal h.loads None runs (is_some command h.asked h.asked_is) h.loaded)
+    sym (expected_loaded sizes h.asked.steps command bytes sn h.first h.loads None runs (is_some command h.asked h.asked_is) h.loaded)
 
 -- words that are taken lead to another status than 2
 not_two : (b : Bool) (o : Option Refusal) (runs : List Run) → expected_of b o runs ≡ 2 → ⊥

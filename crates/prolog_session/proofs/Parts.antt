@@ -7,7 +7,7 @@ use Rattle.prolog_terms.specs.declared.entry.Indicator.{Indicator}
 use Rattle.prolog_terms.specs.declared.node.Node.{Node}
 use Rattle.prolog_clauses.specs.Directives.{IsGoalOf, IsReady}
 use Rattle.prolog_clauses.specs.declared.directive.Directive.{Directive}
-use Rattle.prolog_clauses.specs.declared.directive.Directive.TheVariants.{Operators as ForOperators, Nothing as ForNothing, Kept as ForTheEnd, Goal as ToRun}
+use Rattle.prolog_clauses.specs.declared.directive.Directive.TheVariants.{Operators as ForOperators, Dynamic as ForProcedures, Nothing as ForNothing, Kept as ForTheEnd, Goal as ToRun}
 use Rattle.prolog_reader.specs.Texts.{Reading, HasItsVariables}
 use Rattle.wam_machine.specs.Runs.{AreShown}
 use Rattle.prolog_session.specs.Load.{part_of_directive, asked, IsReadyPart}
@@ -18,6 +18,7 @@ goal-shown line r g h k = λ n d lt. k.variables (get_or r.shown n d).var (h.sta
 
 pub ready-directive : (line : ℕ) (r : Reading) (d : Directive) → HasItsVariables r → IsReady r.term d → IsReadyPart (part_of_directive line r.shown d)
 ready-directive line r (ForOperators d) h k = k
+ready-directive line r (ForProcedures d) h k = tt
 ready-directive line r ForNothing h k = tt
 ready-directive line r (ForTheEnd g) h k = goal-shown line r g h k
 ready-directive line r (ToRun g) h k = goal-shown line r g h k

@@ -9,7 +9,7 @@ use Rattle.prolog_terms.specs.declared.entry.Kind.{Kind}
 use Rattle.prolog_terms.specs.declared.entry.Kind.TheVariants.{Static}
 use Rattle.prolog_terms.specs.declared.entry.What.{What}
 use Rattle.prolog_terms.specs.declared.entry.What.TheVariants.{Declare, Add}
-use Rattle.journal_base.specs.Journal.{Journal, number_of, procedure_named}
+use Rattle.journals.specs.Journal.{Journal, number_of, procedure_named}
 use Rattle.journal_base.specs.Space.{used, need}
 use Rattle.journal_base.specs.Legal.{Legal, MayAdd}
 use Rattle.journal_base.specs.View.{InSeen}
@@ -23,7 +23,7 @@ use Rattle.prolog_session.proofs.Plains.{in_seen, to_seen, same_after, more_afte
 use Rattle.prolog_session.proofs.Facts.{may_add, named-number, unnamed-number, room, no_room, declared-before, declared-now, not_declared, clause_placed, clause_left}
 
 -- what a base has no room for
-full : (s : Plain) (what : What) (u n g : ℕ) → IsFull (plain_view s) what u n g → has_room (sizes_of s) s.entries what ≡ false
+pub full : (s : Plain) (what : What) (u n g : ℕ) → IsFull (plain_view s) what u n g → has_room (sizes_of s) s.entries what ≡ false
 full s what u n g h =
     let seen = in_seen s (λ J. (used J ≡ u) × (length J ≡ g)) h.seen in
     no_room (sizes_of s) s.entries what (go h.full seen)

@@ -8,7 +8,7 @@ use Rattle.std.proofs.lemmas.List.{append_cancel_left}
 use Rattle.std.proofs.lemmas.List.Elements.{filter-append, All-head, All-tail}
 use Rattle.prolog_terms.specs.declared.entry.Entry.{Entry}
 use Rattle.prolog_terms.specs.declared.entry.What.{What}
-use Rattle.journal_base.specs.Journal.{Journal}
+use Rattle.journals.specs.Journal.{Journal}
 use Rattle.journal_base.specs.View.{Looks, Appends, InSeen, Out, none_out, entries_by}
 use Rattle.journal_base.specs.Plain.{Plain, plain_view, plain_out, IsContinued}
 
@@ -57,6 +57,10 @@ with_entries s t c tail is o =
     ∙ ap (λ (n : ℕ). record t { number = s.number; words = s.words; updates = n }) c.updates
     ∙ ap (λ (n : ℕ). record s { entries = t.entries; out = n }) (out_same t.out s.out o)
     ∙ ap (λ (l : List Entry). record s { entries = l }) (c.entries ∙ ap (λ l. s.entries ++ l) is)
+
+-- the base after a call: the entries that it added stand behind those before
+pub continued_after : (s t : Plain) (c : IsContinued s t) → plain_out t.out ≡ plain_out s.out → t ≡ record s { entries = s.entries ++ c.added }
+continued_after s t c o = with_entries s t c c.added refl o
 
 -- a call that adds no entry of its engine leaves the base as it is
 pub same_after : (s t : Plain) → IsContinued s t → Looks (plain_view s) (plain_view t) → plain_out t.out ≡ plain_out s.out → t ≡ s

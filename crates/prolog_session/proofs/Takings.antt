@@ -5,39 +5,48 @@ use Rattle.prolog_terms.specs.Operators.{Table}
 use Rattle.prolog_terms.specs.declared.entry.Clause.{Clause as AClause}
 use Rattle.prolog_terms.specs.declared.entry.Indicator.{Indicator}
 use Rattle.prolog_terms.specs.declared.fault.Fault.{Fault}
-use Rattle.journal_base.specs.Journal.{Journal}
+use Rattle.journals.specs.Journal.{Journal}
 use Rattle.journal_base.specs.Plain.{Plain}
 use Rattle.journal_base.specs.declared.sizes.Sizes.{Sizes}
 use Rattle.prolog_clauses.specs.Declarations.{error_of, table_after}
 use Rattle.prolog_clauses.specs.declared.operators.Declaring.{Declaring}
+use Rattle.prolog_clauses.specs.declared.dynamics.Dynamics.TheVariants.{Declares as DeclaresDynamic}
+use Rattle.wam_machine.specs.declared.run.Goal.{Goal as AGoal}
 use Rattle.wam_machine.specs.declared.run.Run.{Run}
 use Rattle.prolog_session.specs.Runs.{IsRunBy}
 use Rattle.wam_machine.specs.Runs.{AreShown}
 use Rattle.prolog_session.proofs.Loads.{Loads-append, AreAllShown}
 use Rattle.prolog_session.specs.declared.kept.TextGoal.{TextGoal}
 use Rattle.prolog_session.specs.declared.load.Loading.{Loading}
-use Rattle.prolog_session.specs.declared.part.Part.TheVariants.{Clause, Operators, Goal, Kept, Nothing, Raises}
-use Rattle.prolog_session.specs.Load.{with_clause, Placed, Loaded, run_unless, raised, error_items, Item, a_goal, goals, Loads}
-use Rattle.prolog_session.specs.Bases.{sizes_of, loaded_in, error_runs, IsOfLoad, HasClause}
+use Rattle.prolog_session.specs.declared.part.Part.TheVariants.{Clause, Operators, Procedures, Goal, Kept, Nothing, Raises}
+use Rattle.prolog_session.specs.Load.{assertz, with_clause, Placed, Loaded, run_unless, raised, error_items, after_declaration, Item, a_goal, goals, Loads}
+use Rattle.prolog_session.specs.Bases.{sizes_of, loaded_in, error_runs, IsOfLoad, HasClause, HasRunBy}
 use Rattle.prolog_session.specs.Taking.{Takes}
-
--- a goal has been run over what is loaded
-pub goal_added : (ops : Table) (b : Plain) (budget : ℕ) (runs more : List Run) (g : TextGoal) (run : Run) → IsOfLoad b → IsRunBy ops b.number g.line g.goal b.entries budget run → more ≡ runs ++ run ∷ []
-    → Loads (sizes_of b) budget (loaded_in b runs) (a_goal ops g ∷ []) (loaded_in b more)
-goal_added ops b budget runs more g run h by adds =
-    (run, (subst (λ (n : ℕ). IsRunBy ops n g.line g.goal b.entries budget run) h.number by, ap (λ (l : List Run). loaded_in b l) adds))
-
--- ---- the parts
 
 abbrev stands : Journal → List Run → Loaded
 stands J runs = record { journal = J; runs = runs }
 
-pub takes_clause : (budget : ℕ) (old new : Loading) (line : ℕ) (i : Indicator) (c : AClause) (fits : Bool) → HasClause old.base new.base i c fits
-    → new.runs ≡ old.runs ++ run_unless fits line → new.ops ≡ old.ops → new.kept ≡ old.kept → Takes budget old new (Clause line i c)
-takes_clause budget old new line i c fits has adds ops kept =
+-- a goal has been run over what is loaded, and what it made is behind it
+pub goal_added : (ops : Table) (b after : Plain) (budget : ℕ) (runs more : List Run) (g : TextGoal) (run : Run) → IsOfLoad b → HasRunBy ops b after g.line g.goal budget run → more ≡ runs ++ run ∷ []
+    → Loads (sizes_of b) budget (loaded_in b runs) (a_goal ops g ∷ []) (loaded_in after more)
+goal_added ops b after budget runs more g run h by adds =
+    let journal : after.entries ≡ b.entries ++ by.made = ap (λ (s : Plain). s.entries) by.base in
+    let over : IsRunBy (sizes_of b) ops 0 g.line g.goal b.entries by.made budget run = subst (λ (n : ℕ). IsRunBy (sizes_of b) ops n g.line g.goal b.entries by.made budget run) h.number by.run_is in
+    (run, (by.made, (over, ap (λ (J : Journal). stands J more) journal ∙ ap (λ (l : List Run). stands (b.entries ++ by.made) l) adds)))
+
+-- nothing but the entries of the base is another
+pub goal_stays : (ops : Table) (b after : Plain) (budget line : ℕ) (goal : AGoal) (run : Run) → HasRunBy ops b after line goal budget run → after ≡ record b { entries = after.entries }
+goal_stays ops b after budget line goal run by = by.base ∙ ap (λ (J : Journal). record b { entries = J }) (sym (ap (λ (s : Plain). s.entries) by.base))
+
+-- ---- the parts
+
+pub takes_clause : (budget : ℕ) (old new : Loading) (line : ℕ) (i at : Indicator) (c : AClause) (fits : Bool) → HasClause old.base new.base i c fits
+    → new.runs ≡ old.runs ++ run_unless fits line at → at ≡ assertz → new.ops ≡ old.ops → new.kept ≡ old.kept → Takes budget old new (Clause line i c)
+takes_clause budget old new line i at c fits has adds call ops kept =
     let p : Placed = with_clause (sizes_of old.base) old.base.entries i c in
     let entries : new.base.entries ≡ p.journal = ap (λ (b : Plain). b.entries) has.base in
-    let runs : new.runs ≡ old.runs ++ run_unless p.fits line = adds ∙ ap (λ (q : Bool). old.runs ++ run_unless q line) has.room in
+    let runs : new.runs ≡ old.runs ++ run_unless p.fits line assertz =
+    adds ∙ ap (λ (q : Bool). old.runs ++ run_unless q line at) has.room ∙ ap (λ (j : Indicator). old.runs ++ run_unless p.fits line j) call in
     record {
       base = has.base ∙ ap (λ (J : Journal). record old.base { entries = J }) (sym entries);
       loads = ap (λ (J : Journal). stands J new.runs) entries ∙ ap (λ (l : List Run). stands p.journal l) runs;
@@ -66,14 +75,14 @@ takes_operators budget old new line d base ops runs kept = record {
   kept = kept;
 }
 
-pub takes_goal : (budget : ℕ) (old new : Loading) (g : TextGoal) → new.base ≡ old.base → new.ops ≡ old.ops
-    → Loads (sizes_of old.base) budget (loaded_in old.base old.runs) (a_goal old.ops g ∷ []) (loaded_in old.base new.runs) → new.kept ≡ old.kept → Takes budget old new (Goal g)
-takes_goal budget old new g base ops loads kept = record {
-  base = stays old.base new.base base;
-  loads = subst (λ (b : Plain). Loads (sizes_of old.base) budget (loaded_in old.base old.runs) (a_goal old.ops g ∷ []) (loaded_in b new.runs)) (sym base) loads;
-  operators = ops;
-  kept = kept;
-}
+pub takes_declared : (budget : ℕ) (old new : Loading) (line : ℕ) (is : List Indicator) → new.base ≡ record old.base { entries = new.base.entries }
+    → loaded_in new.base new.runs ≡ after_declaration (sizes_of old.base) line is (loaded_in old.base old.runs) → new.ops ≡ old.ops → new.kept ≡ old.kept
+    → Takes budget old new (Procedures line (DeclaresDynamic is))
+takes_declared budget old new line is base loads ops kept = record { base = base; loads = loads; operators = ops; kept = kept }
+
+pub takes_goal : (budget : ℕ) (old new : Loading) (g : TextGoal) → new.base ≡ record old.base { entries = new.base.entries } → new.ops ≡ old.ops
+    → Loads (sizes_of old.base) budget (loaded_in old.base old.runs) (a_goal old.ops g ∷ []) (loaded_in new.base new.runs) → new.kept ≡ old.kept → Takes budget old new (Goal g)
+takes_goal budget old new g base ops loads kept = record { base = base; loads = loads; operators = ops; kept = kept }
 
 pub takes_kept : (budget : ℕ) (old new : Loading) (g : TextGoal) → new.base ≡ old.base → new.ops ≡ old.ops → new.runs ≡ old.runs → new.kept ≡ old.kept ++ g ∷ []
     → Takes budget old new (Kept g)
@@ -98,12 +107,29 @@ takes_raises budget old new line fault at run base ops runs is kept = record {
 
 -- ---- the goals that were kept
 
+pub of_load_after : (b after : Plain) → IsOfLoad b → after ≡ record b { entries = after.entries } → IsOfLoad after
+of_load_after b after h e = record { number = ap (λ (s : Plain). s.number) e ∙ h.number; out = ap (λ (s : Plain). s.out) e ∙ h.out }
+
 pub kept_step : (ops : Table) (sizes : Sizes) (budget i : ℕ) (kept : List TextGoal) (g : TextGoal) (s u t : Loaded) → i < length kept → g ≡ get_or kept i g → Loads sizes budget s (goals ops (take i kept)) u
     → Loads sizes budget u (a_goal ops g ∷ []) t → Loads sizes budget s (goals ops (take (i + 1) kept)) t
 kept_step ops sizes budget i kept g s u t low is h k =
     let items : goals ops (take (i + 1) kept) ≡ goals ops (take i kept) ++ a_goal ops g ∷ [] =
     ap (goals ops) (take_more kept i g low ∙ ap (λ (x : TextGoal). take i kept ++ x ∷ []) (sym is)) ∙ map-append (a_goal ops) (take i kept) (g ∷ []) in
     subst (λ (l : List Item). Loads sizes budget s l t) (sym items) (Loads-append sizes budget s (goals ops (take i kept)) (a_goal ops g ∷ []) u t h k)
+
+-- the next of them has been run
+pub kept_goes : (b now after : Plain) (ops there : Table) (budget i : ℕ) (kept : List TextGoal) (g : TextGoal) (first runs more : List Run) → i < length kept → g ≡ get_or kept i g
+    → now ≡ record b { entries = now.entries } → there ≡ ops → Loads (sizes_of b) budget (loaded_in b first) (goals ops (take i kept)) (loaded_in now runs)
+    → after ≡ record now { entries = after.entries } → Loads (sizes_of now) budget (loaded_in now runs) (a_goal there g ∷ []) (loaded_in after more)
+    → (after ≡ record b { entries = after.entries }) × Loads (sizes_of b) budget (loaded_in b first) (goals ops (take (i + 1) kept)) (loaded_in after more)
+kept_goes b now after ops there budget i kept g first runs more low is same table h base k =
+    let under : Loads (sizes_of now) budget (loaded_in now runs) (a_goal ops g ∷ []) (loaded_in after more) =
+    subst (λ (o : Table). Loads (sizes_of now) budget (loaded_in now runs) (a_goal o g ∷ []) (loaded_in after more)) table k in
+    let sized : Loads (sizes_of b) budget (loaded_in now runs) (a_goal ops g ∷ []) (loaded_in after more) =
+    subst (λ (z : Sizes). Loads z budget (loaded_in now runs) (a_goal ops g ∷ []) (loaded_in after more)) (ap sizes_of same) under in (
+      base ∙ ap (λ (s : Plain). record s { entries = after.entries }) same,
+      kept_step ops (sizes_of b) budget i kept g (loaded_in b first) (loaded_in now runs) (loaded_in after more) low is h sized,
+    )
 
 pub kept_shown : (i : ℕ) (kept : List TextGoal) (g : TextGoal) → i < length kept → g ≡ get_or kept i g → AreAllShown kept → AreShown g.goal
 kept_shown i kept g low is h = subst (λ (x : TextGoal). AreShown x.goal) (sym is) (h i g low)

@@ -8,7 +8,7 @@ use Rattle.prolog_terms.specs.declared.want.Want.{Want}
 use Rattle.prolog_session.specs.declared.writing.Written.{Written}
 use Rattle.prolog_session.specs.declared.writing.Written.TheVariants.{All as Wrote, Failed as Cut, Want as Wanted}
 use Rattle.prolog_session.specs.Sinks.{AppendsPrefix}
-use Rattle.journal_base.specs.Journal.{Journal}
+use Rattle.journals.specs.Journal.{Journal}
 use Rattle.wam_machine.specs.declared.run.Run.{Run}
 use Rattle.prolog_session.specs.declared.prepare.Prepared.{Prepared}
 use Rattle.prolog_session.specs.declared.prepare.Prepared.TheVariants.{Refused, Ran}

@@ -2,14 +2,15 @@
 use Rattle.std.specs.Prelude.{◌≡◌, ◌≢◌, ◌⊎◌, ℕ, ◌<◌, ◌≤◌, Bool, true, false, nat_lt, List, ◌++◌, length, Option, Some, None, IsSome, IsNone}
 use Rattle.std.specs.Io.KnownBytes.{Appends, Consumes, IsAtEnd}
 use Rattle.prolog_terms.specs.Operators.{Table}
-use Rattle.journal_base.specs.Journal.{Journal}
+use Rattle.journals.specs.Journal.{Journal}
+use Rattle.journal_base.specs.Legal.{Legal}
 use Rattle.journal_base.specs.declared.sizes.Sizes.{Sizes}
 use Rattle.wam_machine.specs.declared.run.Run.{Run}
 use Rattle.prolog_session.specs.WholeText.{max_text}
 use Rattle.prolog_session.specs.Sinks.{AppendsPrefix}
 use Rattle.prolog_session.specs.declared.words.Command.{Command}
 use Rattle.prolog_session.specs.declared.refusal.Refusal.{Refusal}
-use Rattle.prolog_session.specs.Load.{IsLoadOf, journal_of, operators_of, refusal_of}
+use Rattle.prolog_session.specs.Load.{IsLoadOf, operators_of, refusal_of}
 use Rattle.prolog_session.specs.Errors.{bad_words_text, source_text, too_long_text, refusal_text}
 use Rattle.prolog_session.specs.Runs.{AreRunsBehind, status_of}
 use Rattle.prolog_session.specs.Output.{load_text, output_of}
@@ -24,7 +25,7 @@ IsRun status = (status ≡ 0) ⊎ ((status ≡ 1) ⊎ (status ≡ 7))
 abbrev pub HasRuns : ℕ → Type 0
 HasRuns status = IsRun status ⊎ (status ≡ 5)
 
--- the journal is the load's, and the runs are the load's or begin with them
+-- the journal and the runs are the load's, or begin with them
 abbrev pub IsLoaded : ℕ → Type 0
 IsLoaded status = HasRuns status ⊎ (status ≡ 3)
 
@@ -71,25 +72,28 @@ pub record IsTooLong (old new : Option (List ℕ)) : Type 0 where
 pub record HasLoaded (sizes : Sizes) (budget : ℕ) (old new : Option (List ℕ)) (journal : Journal) (runs : List Run) (refused : Option Refusal) : Type 0 where
   pub text : List ℕ
   pub took : Took old new text
-  pub journal_is : journal ≡ journal_of sizes text
   pub loads : IsLoadOf sizes budget text journal runs
+  pub legal : Legal sizes.words sizes.updates journal
   pub refused_is : refusal_of text ≡ refused
 
--- The runs are those of a load of this text, each goal of it within the command's budget, and then those of the command over its
--- journal, under the operators behind the text.
+-- The runs are those of a load of this text, each goal of it within the command's budget, and then those of the command over the load's
+-- journal, under the operators behind the text; the journal is the load's with the entries of the command's runs behind it.
 pub record AreRunsOf (sizes : Sizes) (text : List ℕ) (command : Command) (journal : Journal) (runs : List Run) : Type 0 where
   pub loads : List Run
-  pub of_load : IsLoadOf sizes command.steps text journal loads
-  pub behind : AreRunsBehind (operators_of text) loads command journal runs
+  pub loaded : Journal
+  pub of_load : IsLoadOf sizes command.steps text loaded loads
+  pub behind : AreRunsBehind sizes (operators_of text) loads loaded command journal runs
 
--- A text was loaded whole, and the goal was run: the runs are those of the load, and then those of the command over its journal; and
--- these are the operators behind the text.
+-- A text was loaded whole, and the goal was run: the runs are those of the load, and then those of the command over its journal, behind
+-- which are their entries; and these are the operators behind the text.
 pub record HasRun (sizes : Sizes) (command : Option Command) (old new : Option (List ℕ)) (journal : Journal) (runs : List Run) (ops : Table) : Type 0 where
   pub asked : Command
   pub asked_is : command ≡ Some asked
   pub loads : List Run
-  pub loaded : HasLoaded sizes asked.steps old new journal loads None
-  pub runs_are : AreRunsBehind ops loads asked journal runs
+  pub first : Journal
+  pub loaded : HasLoaded sizes asked.steps old new first loads None
+  pub runs_are : AreRunsBehind sizes ops loads first asked journal runs
+  pub legal : Legal sizes.words sizes.updates journal
   pub operators : ops ≡ operators_of loaded.text
 
 -- there are operators, and this is so of them

@@ -5,8 +5,6 @@ pub mod WholeText
 pub mod MemoryMoves
 pub mod SteadyMoves
 pub mod StandardMoves
-pub mod Reserved
-pub mod Defined
 pub mod Bases
 pub mod Load
 pub mod Taking

@@ -1,21 +1,21 @@
 -- The load of a text (docs/LANGUAGE.md, "Programs").
-use Rattle.std.specs.Prelude.{◌≡◌, ℕ, ◌+◌, List, [], ◌∷◌, ◌++◌, map, length, Bool, true, false, ◌&&◌, nat_le, nat_lt, Option, Some, None, if◌then◌else◌, codes}
+use Rattle.std.specs.Prelude.{◌≡◌, ℕ, ◌+◌, List, [], ◌∷◌, ◌++◌, map, length, Bool, true, false, ◌&&◌, ◌||◌, nat_le, nat_lt, Option, Some, None, if◌then◌else◌, codes}
 use Rattle.prolog_terms.specs.Tree.{Tree}
 use Rattle.prolog_terms.specs.Clauses.{IsClause}
 use Rattle.prolog_terms.specs.Indicators.{indicator_of}
 use Rattle.prolog_terms.specs.Operators.{Table, initial_operators}
-use Rattle.prolog_terms.specs.Faults.{fault_tree, indicator_tree}
+use Rattle.prolog_terms.specs.Faults.{fault_tree}
 use Rattle.prolog_terms.specs.declared.fault.Fault.{Fault}
-use Rattle.prolog_terms.specs.declared.fault.Fault.TheVariants.{Permission, Resource}
 use Rattle.prolog_terms.specs.declared.shown.Shown.{Shown}
 use Rattle.prolog_terms.specs.declared.entry.Entry.{Entry}
 use Rattle.prolog_terms.specs.declared.entry.Clause.{Clause as AClause}
 use Rattle.prolog_terms.specs.declared.entry.Indicator.{Indicator}
-use Rattle.prolog_terms.specs.declared.entry.Kind.TheVariants.{Static}
+use Rattle.prolog_terms.specs.declared.entry.Kind.{Kind}
+use Rattle.prolog_terms.specs.declared.entry.Kind.TheVariants.{Static, Dynamic}
 use Rattle.prolog_terms.specs.declared.entry.End.TheVariants.{Back}
 use Rattle.prolog_terms.specs.declared.entry.What.{What}
 use Rattle.prolog_terms.specs.declared.entry.What.TheVariants.{Declare, Add}
-use Rattle.journal_base.specs.Journal.{Journal, procedures, number_of}
+use Rattle.journals.specs.Journal.{Journal, procedures, number_of, procedure_named, same_indicator}
 use Rattle.journal_base.specs.Space.{used, need}
 use Rattle.journal_base.specs.declared.sizes.Sizes.{Sizes}
 use Rattle.prolog_clauses.specs.Formed.{clause_of}
@@ -24,18 +24,21 @@ use Rattle.prolog_clauses.specs.declared.clause.Formed.TheVariants.{Clause as Ma
 use Rattle.prolog_clauses.specs.Declarations.{error_of, table_after, HasPriority}
 use Rattle.prolog_clauses.specs.Directives.{directive_of}
 use Rattle.prolog_clauses.specs.declared.directive.Directive.{Directive}
-use Rattle.prolog_clauses.specs.declared.directive.Directive.TheVariants.{Operators as ForOperators, Nothing as ForNothing, Kept as ForTheEnd, Goal as ToRun}
+use Rattle.prolog_clauses.specs.declared.directive.Directive.TheVariants.{Operators as ForOperators, Dynamic as ForProcedures, Nothing as ForNothing, Kept as ForTheEnd, Goal as ToRun}
+use Rattle.prolog_clauses.specs.declared.dynamics.Dynamics.{Dynamics}
+use Rattle.prolog_clauses.specs.declared.dynamics.Dynamics.TheVariants.{Declares as DeclaresDynamic, Raises as RaisesInstead}
 use Rattle.prolog_lexer.specs.Streams.{tokens}
 use Rattle.prolog_reader.specs.Texts.{Reading, Answer, a_term, nothing, refusal, Sentence, answer_of, sentences}
 use Rattle.wam_machine.specs.declared.run.Run.{Run}
 use Rattle.wam_machine.specs.declared.run.RunEnd.TheVariants.{Ball}
-use Rattle.prolog_session.specs.Reserved.{is_reserved, is_grammar_rule}
+use Rattle.wam_machine.specs.Machine.{no_change, no_room}
+use Rattle.wam_machine.specs.Reserved.{is_reserved}
 use Rattle.wam_machine.specs.Runs.{AreShown}
 use Rattle.prolog_session.specs.Runs.{IsRunBy}
 use Rattle.prolog_session.specs.declared.refusal.Refusal.{Refusal}
 use Rattle.prolog_session.specs.declared.kept.TextGoal.{TextGoal}
 use Rattle.prolog_session.specs.declared.part.Part.{Part}
-use Rattle.prolog_session.specs.declared.part.Part.TheVariants.{Clause, Operators, Goal, Kept, Nothing, Raises}
+use Rattle.prolog_session.specs.declared.part.Part.TheVariants.{Clause, Operators, Procedures, Goal, Kept, Nothing, Raises}
 use Rattle.prolog_session.specs.declared.part.Next.{Next}
 use Rattle.prolog_session.specs.declared.part.Next.TheVariants.{Taken, Refused, End}
 
@@ -45,9 +48,13 @@ use Rattle.prolog_session.specs.declared.part.Next.TheVariants.{Taken, Refused, 
 abbrev pub assertz : Indicator
 assertz = record { name = codes "assertz"; arity = 1 }
 
--- no text may change the procedure of this name and arity
-abbrev pub no_change : Indicator → Fault
-no_change i = Permission (codes "modify") (codes "static_procedure") (indicator_tree i)
+-- that of a directive for dynamic procedures
+abbrev pub dynamic : Indicator
+dynamic = record { name = codes "dynamic"; arity = 1 }
+
+-- a grammar rule, which is no clause
+abbrev pub is_grammar_rule : Indicator → Bool
+is_grammar_rule i = same_indicator i (record { name = codes "-->"; arity = 2 })
 
 abbrev pub not_added : ℕ → Fault → Part
 not_added line fault = Raises line fault assertz
@@ -75,6 +82,7 @@ asked line shown t = record { line = line; goal = record { term = t; shown = sho
 
 abbrev pub part_of_directive : ℕ → List Shown → Directive → Part
 part_of_directive line shown (ForOperators d) = Operators line d
+part_of_directive line shown (ForProcedures d) = Procedures line d
 part_of_directive line shown ForNothing = Nothing
 part_of_directive line shown (ForTheEnd g) = Kept (asked line shown g)
 part_of_directive line shown (ToRun g) = Goal (asked line shown g)
@@ -102,6 +110,7 @@ pub record IsClauseOf (i : Indicator) (c : AClause) : Type 0 where
 abbrev pub IsReadyPart : Part → Type 0
 IsReadyPart (Clause line i c) = IsClauseOf i c
 IsReadyPart (Operators line d) = HasPriority d
+IsReadyPart (Procedures line d) = Unit {0}
 IsReadyPart (Goal g) = AreShown g.goal
 IsReadyPart (Kept g) = AreShown g.goal
 IsReadyPart Nothing = Unit {0}
@@ -114,10 +123,11 @@ IsReadyNext End = Unit {0}
 
 -- ---- the read-terms of a text
 
--- what a read-term has a load do: add a clause, give a run that ends in an error, or run a goal, which writes under the operators at its
--- place
+-- what a read-term has a load do: add a clause, declare procedures dynamic, give a run that ends in an error, or run a goal, which writes
+-- under the operators at its place
 pub data Item : Type 0 where
   a_clause : (line : ℕ) (indicator : Indicator) (clause : AClause) → Item
+  a_declaration : (line : ℕ) (indicators : List Indicator) → Item
   an_error : (line : ℕ) (fault : Fault) (at : Indicator) → Item
   a_goal : (ops : Table) (goal : TextGoal) → Item
 
@@ -135,10 +145,15 @@ abbrev pub error_items : ℕ → Option Fault → List Item
 error_items line None = []
 error_items line (Some fault) = an_error line fault op ∷ []
 
+abbrev pub dynamic_items : ℕ → Dynamics → List Item
+dynamic_items line (DeclaresDynamic is) = a_declaration line is ∷ []
+dynamic_items line (RaisesInstead fault) = an_error line fault dynamic ∷ []
+
 -- what a read-term has a load do at its place, under these operators
 abbrev pub items_of : Part → Table → List Item
 items_of (Clause line i c) ops = a_clause line i c ∷ []
 items_of (Operators line d) ops = error_items line (error_of ops d)
+items_of (Procedures line d) ops = dynamic_items line d
 items_of (Goal g) ops = a_goal ops g ∷ []
 items_of (Kept g) ops = []
 items_of Nothing ops = []
@@ -148,6 +163,7 @@ items_of (Raises line fault at) ops = an_error line fault at ∷ []
 abbrev pub operators_after : Part → Table → Table
 operators_after (Clause line i c) ops = ops
 operators_after (Operators line d) ops = table_after ops d
+operators_after (Procedures line d) ops = ops
 operators_after (Goal g) ops = ops
 operators_after (Kept g) ops = ops
 operators_after Nothing ops = ops
@@ -157,6 +173,7 @@ operators_after (Raises line fault at) ops = ops
 abbrev pub kept_after : Part → List TextGoal → List TextGoal
 kept_after (Clause line i c) kept = kept
 kept_after (Operators line d) kept = kept
+kept_after (Procedures line d) kept = kept
 kept_after (Goal g) kept = kept
 kept_after (Kept g) kept = kept ++ g ∷ []
 kept_after Nothing kept = kept
@@ -237,6 +254,35 @@ placed_behind sizes first what = if first.fits then placed sizes first.journal w
 abbrev pub with_clause : Sizes → Journal → Indicator → AClause → Placed
 with_clause sizes J i c = placed_behind sizes (with_procedure sizes J i) (Add Back (number_or_next J (number_of J i)) c)
 
+-- ---- what is declared dynamic
+
+-- a procedure is declared dynamic, unless it is declared already
+abbrev pub with_dynamic_of : Sizes → Journal → Indicator → Option (ℕ × Kind) → Placed
+with_dynamic_of sizes J i (Some d) = record { journal = J; fits = true }
+with_dynamic_of sizes J i None = placed sizes J (Declare i Dynamic)
+
+abbrev pub with_dynamic : Sizes → Journal → Indicator → Placed
+with_dynamic sizes J i = with_dynamic_of sizes J i (procedure_named J i)
+
+-- one after the other, until one has no room; what was declared stays
+abbrev pub with_dynamics : Sizes → Placed → List Indicator → Placed
+with_dynamics sizes placed [] = placed
+with_dynamics sizes placed (i ∷ is) = if placed.fits then with_dynamics sizes (with_dynamic sizes placed.journal i) is else placed
+
+abbrev pub is_static : Option (ℕ × Kind) → Bool
+is_static None = false
+is_static (Some (p, Static)) = true
+is_static (Some (p, Dynamic)) = false
+
+-- a control construct, a builtin or a static procedure may not be dynamic
+abbrev pub is_fixed : Journal → Indicator → Bool
+is_fixed J i = is_reserved i || is_static (procedure_named J i)
+
+-- the first that may not be
+abbrev pub first_fixed : Journal → List Indicator → Option Indicator
+first_fixed J [] = None
+first_fixed J (i ∷ is) = if is_fixed J i then Some i else first_fixed J is
+
 -- ---- the load
 
 -- the run of a read-term in this line that raises an error
@@ -252,56 +298,52 @@ raised line fault at = record {
   end = Ball (fault_tree fault at);
 }
 
-abbrev pub no_room : Fault
-no_room = Resource (codes "database")
-
 -- a load so far: its journal and its runs
 pub record Loaded : Type 0 where
   pub journal : Journal
   pub runs : List Run
 
-abbrev pub run_unless : Bool → ℕ → List Run
-run_unless true line = []
-run_unless false line = raised line no_room assertz ∷ []
+abbrev pub run_unless : Bool → ℕ → Indicator → List Run
+run_unless true line at = []
+run_unless false line at = raised line no_room at ∷ []
 
--- what was placed, and a run of the clause's line where it had no room
-abbrev pub after_placing : ℕ → Loaded → Placed → Loaded
-after_placing line s p = record { journal = p.journal; runs = s.runs ++ run_unless p.fits line }
+-- what was placed, and a run of its line where it had no room
+abbrev pub after_placing : ℕ → Indicator → Loaded → Placed → Loaded
+after_placing line at s p = record { journal = p.journal; runs = s.runs ++ run_unless p.fits line at }
 
 abbrev pub after_clause : Sizes → ℕ → Indicator → AClause → Loaded → Loaded
-after_clause sizes line i c s = after_placing line s (with_clause sizes s.journal i c)
+after_clause sizes line i c s = after_placing line assertz s (with_clause sizes s.journal i c)
 
 abbrev pub after_error : ℕ → Fault → Indicator → Loaded → Loaded
 after_error line fault at s = record s { runs = s.runs ++ raised line fault at ∷ [] }
 
--- a run of a goal adds nothing to the journal: no goal of the language changes it
-abbrev pub with_run : Loaded → Run → Loaded
-with_run s run = record s { runs = s.runs ++ run ∷ [] }
+-- all are declared, unless one of them may not be
+abbrev pub after_declaration_of : Sizes → ℕ → List Indicator → Loaded → Option Indicator → Loaded
+after_declaration_of sizes line is s (Some i) = after_error line (no_change i) dynamic s
+after_declaration_of sizes line is s None = after_placing line dynamic s (with_dynamics sizes (record { journal = s.journal; fits = true }) is)
 
--- These items, one after the other, lead from the one load so far to the other. A goal is run by engine 0 over the journal at its place
--- and under the operators there, within the budget; a run may be made in more than one way, since its looks may.
+abbrev pub after_declaration : Sizes → ℕ → List Indicator → Loaded → Loaded
+after_declaration sizes line is s = after_declaration_of sizes line is s (first_fixed s.journal is)
+
+-- a run of a goal, and the entries that it made
+abbrev pub with_run : Loaded → List Entry → Run → Loaded
+with_run s made run = record { journal = s.journal ++ made; runs = s.runs ++ run ∷ [] }
+
+-- These items, one after the other, lead from the one load so far to the other. A goal is run by engine 0 over the journal at its place,
+-- with the entries behind it that it makes, and under the operators there, within the budget; a run may be made in more than one way,
+-- since its looks may.
 abbrev pub Loads : Sizes → ℕ → Loaded → List Item → Loaded → Type 0
 Loads sizes budget s [] t = t ≡ s
 Loads sizes budget s (a_clause line i c ∷ rest) t = Loads sizes budget (after_clause sizes line i c s) rest t
+Loads sizes budget s (a_declaration line is ∷ rest) t = Loads sizes budget (after_declaration sizes line is s) rest t
 Loads sizes budget s (an_error line fault at ∷ rest) t = Loads sizes budget (after_error line fault at s) rest t
-Loads sizes budget s (a_goal ops g ∷ rest) t = (run : Run) × (IsRunBy ops 0 g.line g.goal s.journal budget run × Loads sizes budget (with_run s run) rest t)
+Loads sizes budget s (a_goal ops g ∷ rest) t = (run : Run) × ((made : List Entry) × (IsRunBy sizes ops 0 g.line g.goal s.journal made budget run × Loads sizes budget (with_run s made run) rest t))
 
 abbrev pub unloaded : Loaded
 unloaded = record { journal = []; runs = [] }
 
 -- This journal and these runs are those of a load of the text into an empty base of these sizes. The runs are by engine 0, in order:
--- one for each clause that had no room, each read-term that can't be added, each directive for operators that raised an error, and each
--- goal.
+-- one for each clause that had no room, each read-term that can't be added, each directive for operators or dynamic procedures that
+-- raised an error, and each goal.
 abbrev pub IsLoadOf : Sizes → ℕ → List ℕ → Journal → List Run → Type 0
 IsLoadOf sizes budget text journal runs = Loads sizes budget unloaded (text_of text).items (record { journal = journal; runs = runs })
-
--- The journal behind these items. It is determined whatever the runs are, since no goal of the language changes it: the clauses alone do.
-abbrev pub journal_after : Sizes → Journal → List Item → Journal
-journal_after sizes J [] = J
-journal_after sizes J (a_clause line i c ∷ rest) = journal_after sizes (with_clause sizes J i c).journal rest
-journal_after sizes J (an_error line fault at ∷ rest) = journal_after sizes J rest
-journal_after sizes J (a_goal ops g ∷ rest) = journal_after sizes J rest
-
--- the journal of each load of this text into an empty base of these sizes
-abbrev pub journal_of : Sizes → List ℕ → Journal
-journal_of sizes text = journal_after sizes [] (text_of text).items

@@ -3,7 +3,7 @@ use Rattle.std.specs.Prelude.{◌≡◌, ℕ, List, ◌++◌, Option, Some, IsSo
 use Rattle.std.specs.Io.KnownBytes.{Keeps}
 use Rattle.prolog_session.specs.declared.words.Command.{Command}
 use Rattle.journal_base.specs.declared.sizes.Sizes.{Sizes}
-use Rattle.journal_base.specs.Journal.{Journal}
+use Rattle.journals.specs.Journal.{Journal}
 use Rattle.prolog_terms.specs.Operators.{Table}
 use Rattle.wam_machine.specs.declared.run.Run.{Run}
 use Rattle.prolog_session.specs.declared.refusal.Refusal.{Refusal}

@@ -1,8 +1,10 @@
 -- The runs of a command, and the status that they give.
-use Rattle.std.specs.Prelude.{◌≡◌, ◌≢◌, ℕ, ◌≤◌, Bool, true, false, IsTrue, List, [], ◌∷◌, ◌++◌, length, Option, Some, None, if◌then◌else◌}
+use Rattle.std.specs.Prelude.{◌≡◌, ◌≢◌, ℕ, ◌≤◌, Bool, true, false, IsTrue, List, [], ◌∷◌, ◌++◌, length, All, Option, Some, None, if◌then◌else◌}
 use Rattle.std.specs.List.{list_any}
 use Rattle.prolog_terms.specs.Operators.{Table}
-use Rattle.journal_base.specs.Journal.{Journal}
+use Rattle.prolog_terms.specs.declared.entry.Entry.{Entry}
+use Rattle.journals.specs.Journal.{Journal}
+use Rattle.journal_base.specs.declared.sizes.Sizes.{Sizes}
 use Rattle.wam_machine.specs.Machine.{shown_list}
 use Rattle.wam_machine.specs.Runs.{IsTranscribed}
 use Rattle.wam_machine.specs.declared.run.Goal.{Goal}
@@ -11,35 +13,40 @@ use Rattle.wam_machine.specs.declared.run.RunEnd.{RunEnd}
 use Rattle.wam_machine.specs.declared.run.RunEnd.TheVariants.{Exhausted, Ball, Spent, Halted, Want}
 use Rattle.prolog_session.specs.declared.words.Command.{Command}
 
--- A run of the goal over the journal by this engine within the budget, with this line, for which memory sufficed; it writes under these
--- operators. Each of its looks is a scan, since the base has no indexes.
-pub record IsRunBy (ops : Table) (engine line : ℕ) (goal : Goal) (J : Journal) (budget : ℕ) (run : Run) : Type 0 where
+-- A run of the goal by this engine over the journal, behind which it made these entries, in a base of these sizes and within the budget,
+-- with this line, for which memory sufficed; it writes under these operators. All entries behind the journal are the run's own. Each of
+-- its looks is a scan, since the base has no indexes.
+pub record IsRunBy (sizes : Sizes) (ops : Table) (engine line : ℕ) (goal : Goal) (J : Journal) (made : List Entry) (budget : ℕ) (run : Run) : Type 0 where
   pub engine_is : run.engine ≡ engine
   pub line_is : run.line ≡ line
   pub shown : run.shown ≡ goal.shown
   pub within : run.steps ≤ budget
   pub ended : run.end ≢ Want
-  pub transcribed : IsTranscribed (record { engine = engine; journal = J; start = length J; budget = budget; shown = shown_list goal.shown; ops = ops }) (0 ∷ []) goal.term run
+  pub own : All (λ e. e.by ≡ engine) made
+  pub transcribed : IsTranscribed (record { engine = engine; journal = J ++ made; words = sizes.words; updates = sizes.updates; start = length J; budget = budget; shown = shown_list goal.shown; ops = ops }) (0 ∷ []) goal.term run
 
 -- these are one run, of a goal of the command line by engine 1
-pub record IsOneRun (ops : Table) (goal : Goal) (J : Journal) (budget : ℕ) (runs : List Run) : Type 0 where
+pub record IsOneRun (sizes : Sizes) (ops : Table) (goal : Goal) (J : Journal) (made : List Entry) (budget : ℕ) (runs : List Run) : Type 0 where
   pub run : Run
   pub only : runs ≡ run ∷ []
-  pub by : IsRunBy ops 1 0 goal J budget run
+  pub by : IsRunBy sizes ops 1 0 goal J made budget run
 
--- the runs of a command over a journal and under an operator table: that of its goal within its budget, if it has one
-abbrev pub AreRunsWithin : Table → ℕ → Option Goal → Journal → List Run → Type 0
-AreRunsWithin ops budget None J runs = runs ≡ []
-AreRunsWithin ops budget (Some goal) J runs = IsOneRun ops goal J budget runs
+-- the runs of a command over a journal and under an operator table, and the entries that they made: that of its goal within its budget,
+-- if it has one
+abbrev pub AreRunsWithin : Sizes → Table → ℕ → Option Goal → Journal → List Entry → List Run → Type 0
+AreRunsWithin sizes ops budget None J made runs = (runs ≡ []) × (made ≡ [])
+AreRunsWithin sizes ops budget (Some goal) J made runs = IsOneRun sizes ops goal J made budget runs
 
-abbrev pub AreRuns : Table → Command → Journal → List Run → Type 0
-AreRuns ops command = AreRunsWithin ops command.steps command.goal
+abbrev pub AreRuns : Sizes → Table → Command → Journal → List Entry → List Run → Type 0
+AreRuns sizes ops command = AreRunsWithin sizes ops command.steps command.goal
 
--- first these runs of a load, and then those of a command over its journal, under these operators
-pub record AreRunsBehind (ops : Table) (loads : List Run) (command : Command) (J : Journal) (runs : List Run) : Type 0 where
+-- First these runs of a load, and then those of a command over its journal, under these operators; this is the journal behind them.
+pub record AreRunsBehind (sizes : Sizes) (ops : Table) (loads : List Run) (loaded : Journal) (command : Command) (J : Journal) (runs : List Run) : Type 0 where
   pub goals : List Run
+  pub made : List Entry
   pub in_order : runs ≡ loads ++ goals
-  pub of_command : AreRuns ops command J goals
+  pub journal : J ≡ loaded ++ made
+  pub of_command : AreRuns sizes ops command loaded made goals
 
 abbrev pub is_ball : RunEnd → Bool
 is_ball Exhausted = false

@@ -2,7 +2,7 @@
 ghost use Rattle.std.specs.Prelude.{◌≡◌, ◌≤◌, ◌↔◌, IfOk, IsTrue};
 ghost use Rattle.wam_machine.specs.Runs.{AreShown};
 ghost use Rattle.prolog_session.specs.Words.{max_steps};
-ghost use Rattle.prolog_session.specs.Runs.{IsRunBy};
+ghost use Rattle.prolog_session.specs.Bases.{HasRunBy};
 
 use journal_base::{Gate, PlainBase};
 use prolog_terms::{Ops, Want};
@@ -19,7 +19,7 @@ pub struct GoalRun {
 }
 
 /// Runs a goal by the engine that the base serves, in as many steps at most as are given; the run has this line, and writes
-/// under these operators. The base and the operators come back as they were.
+/// under these operators. The operators come back as they were, and the base with what the run added.
 pub fn run_goal<R: Wait, G: Gate>(
     rt: &R,
     alloc: Global,
@@ -33,9 +33,8 @@ pub fn run_goal<R: Wait, G: Gate>(
     requires steps { (1 ≤ steps) × (steps ≤ max_steps) }
     requires goal { AreShown goal.now }
     requires out { base.out ≡ 0 }
-    ensures base { IfOk result (λ ran. ran.base ≡ base) }
     ensures ops { IfOk result (λ ran. ran.ops ≡ ops) }
-    ensures run { IfOk result (λ ran. IsRunBy ops base.number line goal.now base.entries steps ran.run) }
+    ensures run { IfOk result (λ ran. HasRunBy ops base ran.base line goal.now steps ran.run) }
 {
     let mut engine = match Engine::new(alloc, base, ops) {
         Ok(engine) => engine,

@@ -7,7 +7,6 @@
 mod finish;
 mod goal_run;
 mod kept;
-mod law;
 mod load;
 mod memory;
 mod part;
@@ -15,7 +14,6 @@ mod prepare;
 mod putting;
 mod reading;
 mod refusal;
-mod reserved;
 mod run;
 mod runs;
 mod session;
@@ -28,7 +26,6 @@ mod words;
 mod writing;
 
 pub use finish::{Outcome, WANTED};
-pub use law::what_is_defined_is_called;
 pub use memory::{MemorySink, MemorySource};
 pub use prolog_terms::Want;
 pub use reading::{MAX_TEXT, Text, read_all};

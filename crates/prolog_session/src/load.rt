@@ -1,31 +1,32 @@
 // The load of a text.
-ghost use Rattle.std.specs.Prelude.{◌≡◌, ◌≤◌, ◌++◌, [], ◌∷◌, None, Some, All, IfOk, OnOk};
+ghost use Rattle.std.specs.Prelude.{◌≡◌, ◌≤◌, ◌++◌, [], ◌∷◌, None, Some, All, IfOk, OnOk, MatchOption, ℕ};
 ghost use Rattle.prolog_terms.specs.Clauses.{IsClause};
 ghost use Rattle.prolog_terms.specs.Indicators.{indicator_of};
 ghost use Rattle.prolog_terms.specs.Operators.{initial_operators};
 ghost use Rattle.prolog_clauses.specs.Declarations.{error_of, table_after, HasPriority};
 ghost use Rattle.journal_base.specs.View.{AreSizes};
+ghost use Rattle.wam_machine.specs.Machine.{no_change};
 ghost use Rattle.wam_machine.specs.Runs.{AreShown};
 ghost use Rattle.prolog_session.specs.Words.{max_steps};
 ghost use Rattle.prolog_session.specs.Load as the_load;
-ghost use Rattle.prolog_session.specs.Load.{a_goal, goals, Loads, IsReadyPart, IsLoadOf, journal_of, operators_of, refusal_of};
-ghost use Rattle.prolog_session.specs.Bases.{error_runs, sizes_of, holding, loaded_in, IsOfLoad, HasProcedure, HasClause};
+ghost use Rattle.prolog_session.specs.Load.{a_goal, goals, Loads, IsReadyPart, IsLoadOf, operators_of, refusal_of};
+ghost use Rattle.prolog_session.specs.Bases.{error_runs, sizes_of, holding, loaded_in, IsOfLoad, HasProcedure, HasClause, HasDynamics};
 ghost use Rattle.prolog_session.specs.Taking.{Takes};
 
 use crate::Runs;
 use crate::goal_run::run_goal;
 use crate::kept::{Kept, TextGoal};
-use crate::part::{Next, Part, next_part};
+use crate::part::{Next, Part, indicator_term, next_part};
 use crate::refusal::Refusal;
 use journal_base::{Added, Base, Declared, Gate, PlainBase, Sizes, Tally};
-use prolog_clauses::{Declaring, declare};
+use prolog_clauses::{Declaring, Dynamics, Indicators, declare};
 use prolog_lexer::Lexer;
 use prolog_terms::{
     Clause, End, Fault, Indicator, Kind, Name, Ops, ShownVariables, Want, fault_term,
 };
 use std::alloc::Global;
 use std::sync::Wait;
-use wam_machine::{Events, Fronts, Run, RunEnd};
+use wam_machine::{Events, Fronts, Run, RunEnd, is_reserved};
 
 /// The engine of the load.
 const LOADER: u32 = 0;
@@ -110,26 +111,156 @@ fn raised(alloc: Global, line: u64, fault: &Fault, at: &Indicator) -> Result<Run
     })
 }
 
-/// The run of a clause in this line for which there is no room: the error that `assertz/1` raises.
-fn unplaced(alloc: Global, line: u64) -> Result<Run, Want>
-    ensures { IfOk result (λ run. run ≡ the_load.raised line the_load.no_room the_load.assertz) }
+/// The call that adds a clause of the text.
+fn assertz(alloc: Global) -> Result<Indicator, Want>
+    ensures { IfOk result (λ i. i ≡ the_load.assertz) }
 {
-    let fault = Fault::Resource(Name::of(alloc, b"database")?);
-    let assertz = Indicator {
+    Ok(Indicator {
         name: Name::of(alloc, b"assertz")?,
         arity: 1,
-    };
-    raised(alloc, line, &fault, &assertz)
+    })
 }
 
-/// Adds a run of a clause in this line, unless there was room for it.
-fn add_run(alloc: Global, runs: &mut Runs, fits: bool, line: u64) -> Result<(), Want>
-    ensures { OnOk result (runs.new ≡ runs.old ++ the_load.run_unless fits line) }
+/// The call that declares procedures dynamic.
+fn dynamic(alloc: Global) -> Result<Indicator, Want>
+    ensures { IfOk result (λ i. i ≡ the_load.dynamic) }
+{
+    Ok(Indicator {
+        name: Name::of(alloc, b"dynamic")?,
+        arity: 1,
+    })
+}
+
+/// Adds a run of a read-term in this line, unless there was room for it; the error is that of this call.
+fn add_run(
+    alloc: Global,
+    runs: &mut Runs,
+    fits: bool,
+    line: u64,
+    at: &Indicator,
+) -> Result<(), Want>
+    ensures { OnOk result (runs.new ≡ runs.old ++ the_load.run_unless fits line at.now) }
 {
     if fits {
         return Ok(());
     }
-    runs.push(unplaced(alloc, line)?)
+    let fault = Fault::Resource(Name::of(alloc, b"database")?);
+    runs.push(raised(alloc, line, &fault, at)?)
+}
+
+/// Declares procedures dynamic, one after the other, where they aren't declared. The answer says whether there was room for all.
+fn declare_dynamic<R: Wait>(
+    rt: &R,
+    base: &mut PlainBase,
+    indicators: &[Indicator],
+) -> Result<bool, Want>
+    requires { base.old.number ≡ 0 }
+    ensures { IfOk result (HasDynamics base.old base.new indicators.now) }
+{
+    'procedures: for indicator in indicators {
+        match base.declare(rt, indicator, Kind::Dynamic) {
+            Declared::Done(_) => {}
+            Declared::Already(_, _) => {}
+            Declared::Full { .. } => return Ok(false),
+            Declared::Want => return Err(Want),
+        }
+    }
+    Ok(true)
+}
+
+/// Whether a procedure that was looked for is there, and static.
+fn is_static(procedure: Option<(u32, Kind)>) -> bool
+    ensures { result ≡ the_load.is_static procedure }
+{
+    match procedure {
+        Some((_, Kind::Static)) => true,
+        Some((_, Kind::Dynamic)) => false,
+        None => false,
+    }
+}
+
+/// Whether a procedure may not be dynamic: it is a control construct, a builtin, or static.
+fn is_fixed(base: &mut PlainBase, indicator: &Indicator) -> bool
+    ensures base { base.new ≡ base.old }
+    ensures fixed { result ≡ the_load.is_fixed base.old.entries indicator.now }
+{
+    if is_reserved(indicator) {
+        return true;
+    }
+    is_static(base.find(indicator))
+}
+
+/// The first of these that may not be dynamic.
+fn first_fixed<'a>(base: &mut PlainBase, indicators: &'a [Indicator]) -> Option<&'a Indicator>
+    ensures base { base.new ≡ base.old }
+    ensures first { MatchOption result (the_load.first_fixed base.old.entries indicators.now ≡ None) (λ i. the_load.first_fixed base.old.entries indicators.now ≡ Some i.now) }
+{
+    'procedures: for indicator in indicators {
+        if is_fixed(base, indicator) {
+            return Some(indicator);
+        }
+    }
+    None
+}
+
+/// The run of a directive in this line that would declare this procedure dynamic, which may not be.
+fn unchangeable(alloc: Global, line: u64, indicator: &Indicator) -> Result<Run, Want>
+    ensures { IfOk result (λ run. run ≡ the_load.raised line (no_change indicator.now) the_load.dynamic) }
+{
+    let action = Name::of(alloc, b"modify")?;
+    let kind = Name::of(alloc, b"static_procedure")?;
+    let culprit = indicator_term(alloc, indicator)?;
+    let at = dynamic(alloc)?;
+    raised(alloc, line, &Fault::Permission(action, kind, culprit), &at)
+}
+
+/// Declares procedures dynamic, unless one of them may not be; what has no room, and an error, have a run.
+fn add_dynamic<R: Wait>(
+    rt: &R,
+    alloc: Global,
+    base: &mut PlainBase,
+    runs: &mut Runs,
+    line: u64,
+    indicators: &Indicators,
+) -> Result<(), Want>
+    requires { base.old.number ≡ 0 }
+    ensures base { OnOk result (base.new ≡ record base.old { entries = base.new.entries }) }
+    ensures loaded { OnOk result (loaded_in base.new runs.new ≡ the_load.after_declaration (sizes_of base.old) line indicators.now (loaded_in base.old runs.old)) }
+{
+    let indicators = indicators.items();
+    if let Some(indicator) = first_fixed(base, indicators) {
+        return runs.push(unchangeable(alloc, line, indicator)?);
+    }
+    let fits = declare_dynamic(rt, base, indicators)?;
+    let at = dynamic(alloc)?;
+    add_run(alloc, runs, fits, line, &at)
+}
+
+/// Declares the procedures of a directive dynamic, or adds a run of its error.
+fn add_dynamics<R: Wait>(
+    rt: &R,
+    alloc: Global,
+    load: &mut Loading,
+    line: u64,
+    dynamics: Dynamics,
+) -> Result<(), Want>
+    requires { IsOfLoad load.old.base }
+    ensures { OnOk result ((budget : ℕ) → Takes budget load.old load.new (Part.Procedures line dynamics)) }
+{
+    match dynamics {
+        Dynamics::Declares(indicators) => add_dynamic(
+            rt,
+            alloc,
+            &mut load.base,
+            &mut load.runs,
+            line,
+            &indicators,
+        ),
+        Dynamics::Raises(fault) => {
+            let at = dynamic(alloc)?;
+            load.runs.push(raised(alloc, line, &fault, &at)?)
+        }
+    }
 }
 
 /// Adds a run of a directive for operators in this line, if there is an error.
@@ -163,7 +294,7 @@ fn add_operators(
     add_error(alloc, runs, fault, line)
 }
 
-/// Runs a goal of the text over what is loaded, and adds its run.
+/// Runs a goal of the text over what is loaded, and adds its run; what it added to the base stays.
 fn run_in_load<R: Wait, G: Gate>(
     rt: &R,
     alloc: Global,
@@ -177,9 +308,9 @@ fn run_in_load<R: Wait, G: Gate>(
     requires steps { (1 ≤ steps) × (steps ≤ max_steps) }
     requires goal { AreShown goal.now.goal }
     requires base { IsOfLoad base }
-    ensures base { IfOk result (λ after. after.0 ≡ base) }
+    ensures base { IfOk result (λ after. after.0 ≡ record base { entries = after.0.entries }) }
     ensures ops { IfOk result (λ after. after.1 ≡ ops) }
-    ensures run { OnOk result (Loads (sizes_of base) steps (loaded_in base runs.old) (a_goal ops goal.now ∷ []) (loaded_in base runs.new)) }
+    ensures run { IfOk result (λ after. Loads (sizes_of base) steps (loaded_in base runs.old) (a_goal ops goal.now ∷ []) (loaded_in after.0 runs.new)) }
 {
     let ran = run_goal(rt, alloc, gate, steps, base, ops, goal.line, &goal.goal)?;
     runs.push(ran.run)?;
@@ -233,11 +364,16 @@ fn add_part<R: Wait, G: Gate>(
     match part {
         Part::Clause(line, indicator, clause) => {
             let fits = add_clause(rt, &mut load.base, &indicator, &clause)?;
-            add_run(alloc, &mut load.runs, fits, line)?;
+            let at = assertz(alloc)?;
+            add_run(alloc, &mut load.runs, fits, line, &at)?;
             Ok(load)
         }
         Part::Operators(line, declaring) => {
             add_operators(alloc, &mut load.ops, &mut load.runs, line, declaring)?;
+            Ok(load)
+        }
+        Part::Procedures(line, dynamics) => {
+            add_dynamics(rt, alloc, &mut load, line, dynamics)?;
             Ok(load)
         }
         Part::Goal(goal) => run_directive(rt, alloc, gate, steps, load, &goal),
@@ -264,7 +400,7 @@ fn run_kept<R: Wait, G: Gate>(
     requires steps { (1 ≤ steps) × (steps ≤ max_steps) }
     requires goals { All (λ goal. AreShown goal.goal) load.kept }
     requires base { IsOfLoad load.base }
-    ensures base { IfOk result (λ after. after.base ≡ load.base) }
+    ensures base { IfOk result (λ after. after.base ≡ record load.base { entries = after.base.entries }) }
     ensures runs { IfOk result (λ after. Loads (sizes_of load.base) steps (loaded_in load.base load.runs) (goals load.ops load.kept) (loaded_in after.base after.runs)) }
     ensures operators { IfOk result (λ after. after.ops ≡ load.ops) }
     ensures refused { IfOk result (λ after. after.refused ≡ None) }
@@ -318,7 +454,7 @@ fn begun(alloc: Global, sizes: Sizes) -> Result<Loading, Want>
 }
 
 /// Loads a text into a base of these sizes, up to the first read-term that is refused: adds its clauses, declares its operators
-/// and runs its goals, of so many steps at most each; those that are kept come last, where no read-term is refused. What has no
+/// and its dynamic procedures and runs its goals, of so many steps at most each; those that are kept come last, where no read-term is refused. What has no
 /// room, can't be added or raises an error has a run of its own, and the load goes on.
 #[tactic(auto, unfolding(crate::specs::Load::text_of))]
 pub fn load_text<R: Wait, G: Gate>(
@@ -331,7 +467,7 @@ pub fn load_text<R: Wait, G: Gate>(
 ) -> Result<Load, Want>
     requires sizes { AreSizes sizes.words sizes.updates }
     requires steps { (1 ≤ steps) × (steps ≤ max_steps) }
-    ensures base { IfOk result (λ load. load.base ≡ holding sizes (journal_of sizes text.now)) }
+    ensures base { IfOk result (λ load. load.base ≡ holding sizes load.base.entries) }
     ensures runs { IfOk result (λ load. IsLoadOf sizes steps text.now load.base.entries load.runs) }
     ensures operators { IfOk result (λ load. load.ops ≡ operators_of text.now) }
     ensures refused { IfOk result (λ load. load.refused ≡ refusal_of text.now) }

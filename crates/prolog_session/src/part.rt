@@ -6,20 +6,20 @@ ghost use Rattle.prolog_terms.specs.Faults.{indicator_tree};
 ghost use Rattle.prolog_terms.specs.Indicators.{indicator_of};
 ghost use Rattle.prolog_lexer.specs.Streams.{ahead};
 ghost use Rattle.prolog_reader.specs.Texts.{Answer, Says, Numbers, HasItsVariables, read_of, read_reading, tail};
+ghost use Rattle.wam_machine.specs.Machine.{no_change};
 ghost use Rattle.prolog_session.specs.Load as load;
 ghost use Rattle.prolog_session.specs.Load.{IsReadyPart, IsReadyNext};
 
 use crate::kept::TextGoal;
 use crate::refusal::Refusal;
-use crate::reserved::{is_grammar_rule, is_reserved};
-use prolog_clauses::{Declaring, Directive, Formed, clause_of, directive_of};
+use prolog_clauses::{Declaring, Directive, Dynamics, Formed, clause_of, directive_of};
 use prolog_lexer::Lexer;
 use prolog_reader::{Read, ReadTerm, read_term};
 use prolog_terms::{
     Clause, Fault, Indicator, Name, Node, Ops, ShownVariables, Term, Want, Whole, term_indicator,
 };
 use std::alloc::Global;
-use wam_machine::Goal;
+use wam_machine::{Goal, is_reserved};
 
 /// What a read-term is to a load.
 #[derive(Debug, Drop)]
@@ -28,6 +28,8 @@ pub enum Part {
     Clause(u64, Indicator, Clause),
     /// A directive `:- op(P, T, N)`, with its line.
     Operators(u64, Declaring),
+    /// A directive `:- dynamic(Specs)`, with its line.
+    Procedures(u64, Dynamics),
     /// A directive or a query whose goal is run at its place.
     Goal(TextGoal),
     /// A directive `:- initialization(G)`, whose goal is kept for the end of the text.
@@ -87,6 +89,7 @@ fn part_of_directive(line: u64, directive: Directive, shown: ShownVariables) -> 
 {
     match directive {
         Directive::Operators(declaring) => Part::Operators(line, declaring),
+        Directive::Dynamic(dynamics) => Part::Procedures(line, dynamics),
         Directive::Nothing => Part::Nothing,
         Directive::Kept(term) => Part::Kept(TextGoal {
             line,
@@ -137,9 +140,16 @@ fn part_of_named(
     Ok(Part::Clause(line, indicator, clause))
 }
 
+/// Whether the indicator is that of a grammar rule, which is no clause.
+fn is_grammar_rule(indicator: &Indicator) -> bool
+    ensures { result ≡ load.is_grammar_rule indicator.now }
+{
+    indicator.name.bytes() == b"-->".as_slice() && indicator.arity == 2
+}
+
 /// The error that no text may change the procedure of this name and arity.
 fn no_change(alloc: Global, line: u64, indicator: &Indicator) -> Result<Part, Want>
-    ensures { IfOk result (λ p. p ≡ load.not_added line (load.no_change indicator.now)) }
+    ensures { IfOk result (λ p. p ≡ load.not_added line (no_change indicator.now)) }
 {
     let action = Name::of(alloc, b"modify")?;
     let kind = Name::of(alloc, b"static_procedure")?;
@@ -182,7 +192,7 @@ fn put_indicator(nodes: &mut Vec<Node>, alloc: Global, indicator: &Indicator) ->
 }
 
 /// The term of a name and arity.
-fn indicator_term(alloc: Global, indicator: &Indicator) -> Result<Term, Want>
+pub(crate) fn indicator_term(alloc: Global, indicator: &Indicator) -> Result<Term, Want>
     ensures { IfOk result (λ t. t ≡ indicator_tree indicator.now) }
 {
     let mut nodes = Vec::new(alloc);

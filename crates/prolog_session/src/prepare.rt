@@ -11,7 +11,7 @@ use crate::run::{run_command, status_of_runs};
 use crate::texts::{output, refused_text};
 use crate::words::read_command;
 use crate::{Runs, Source, Text, read_all};
-use journal_base::{Gate, Sizes};
+use journal_base::{Base, Gate, Sizes};
 use prolog_terms::{Entries, Ops, Want};
 use std::alloc::Global;
 use std::sync::Wait;
@@ -52,6 +52,7 @@ pub fn prepare<R: Wait, S: Source, G: Gate>(
         Text::Want => return Err(Want),
     };
     let load = load_text(rt, alloc, gate, command.steps, sizes, &text)?;
+    let _front = load.base.front();
     if let Some(refusal) = load.refused {
         return Ok(Prepared::Refused(load.base.into_entries(), load.runs, load.ops, refusal));
     }

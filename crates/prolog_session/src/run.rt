@@ -1,14 +1,16 @@
 // The run of a command's goal, and the status that runs give.
 ghost use Rattle.std.specs.Prelude.{◌≡◌, IfOk};
 ghost use Rattle.std.specs.List.{list_any};
+ghost use Rattle.journal_base.specs.Legal.{Legal};
 ghost use Rattle.prolog_session.specs.Words.{IsReady};
+ghost use Rattle.prolog_session.specs.Bases.{sizes_of};
 ghost use Rattle.prolog_session.specs.Runs.{AreRunsBehind, ends_in_ball, ends_spent, status_of};
 
 use crate::goal_run::run_goal;
 use crate::load::Load;
 use crate::runs::Runs;
 use crate::words::Command;
-use journal_base::Gate;
+use journal_base::{Base, Gate};
 use prolog_terms::{Entries, Ops, Want};
 use std::alloc::Global;
 use std::sync::Wait;
@@ -17,7 +19,7 @@ use wam_machine::{Run, RunEnd};
 /// The engine of the first goal.
 const FIRST: u32 = 1;
 
-/// The journal of a load, its runs with that of the command's goal behind them, and its operators.
+/// The journal of a load with what the command's goal added, its runs with that of the goal behind them, and its operators.
 #[derive(Drop)]
 pub struct Ran {
     pub journal: Entries,
@@ -36,9 +38,9 @@ pub fn run_command<R: Wait, G: Gate>(
 ) -> Result<Ran, Want>
     requires ready { IsReady command }
     requires out { load.base.out ≡ 0 }
-    ensures journal { IfOk result (λ ran. ran.journal ≡ load.base.entries) }
     ensures operators { IfOk result (λ ran. ran.ops ≡ load.ops) }
-    ensures runs { IfOk result (λ ran. AreRunsBehind load.ops load.runs command load.base.entries ran.runs) }
+    ensures legal { IfOk result (λ ran. Legal load.base.words load.base.updates ran.journal) }
+    ensures runs { IfOk result (λ ran. AreRunsBehind (sizes_of load.base) load.ops load.runs load.base.entries command ran.journal ran.runs) }
 {
     let Load {
         base,
@@ -50,6 +52,7 @@ pub fn run_command<R: Wait, G: Gate>(
     let goal = match goal {
         Some(goal) => goal,
         None => {
+            let _front = base.front();
             return Ok(Ran {
                 journal: base.into_entries(),
                 runs,
@@ -68,6 +71,7 @@ pub fn run_command<R: Wait, G: Gate>(
         &goal,
     )?;
     runs.push(ran.run)?;
+    let _front = ran.base.front();
     Ok(Ran {
         journal: ran.base.into_entries(),
         runs,

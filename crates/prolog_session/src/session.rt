@@ -5,7 +5,7 @@ ghost use Rattle.journal_base.specs.Legal.{Legal};
 ghost use Rattle.prolog_session.specs.FaultCounts.{Rose};
 ghost use Rattle.prolog_session.specs.WholeText.{max_text};
 ghost use Rattle.prolog_session.specs.Sinks.{AppendsPrefix};
-ghost use Rattle.prolog_session.specs.Load.{IsLoadOf, journal_of, operators_of, refusal_of};
+ghost use Rattle.prolog_session.specs.Load.{IsLoadOf, operators_of, refusal_of};
 ghost use Rattle.prolog_session.specs.Words.{command_of};
 ghost use Rattle.prolog_session.specs.Runs.{EndsInBall, EndsSpent};
 ghost use Rattle.prolog_session.specs.Errors.{bad_words_text, source_text, too_long_text, refusal_text};
@@ -20,8 +20,8 @@ use std::alloc::Global;
 use std::sync::Wait;
 use std::thread::Threads;
 
-/// Reads the whole source and loads it into a base of these sizes: its clauses are added, its operators declared and its goals
-/// run, those that are kept after the last read-term. Then the goal of the words is run, and the answers are written. What the
+/// Reads the whole source and loads it into a base of these sizes: its clauses are added, its operators and its dynamic
+/// procedures declared and its goals run, those that are kept after the last read-term. Then the goal of the words is run, and the answers are written. What the
 /// load can't add, what has no room and a directive that raises an error have a run that ends in the error, and the load goes
 /// on. The status is 0, 1 or 7 after the runs (1 where one ends in a ball, else 7 where one has spent its budget), and else the
 /// number of what went wrong: 2 bad words, 3 a read-term that is refused, 4 the source failed, 5 the sink failed, 6 memory was
@@ -53,9 +53,9 @@ pub fn top<R: Threads + Wait + Sync, S: Source, K: Sink, G: Gate + Sync>(
     ensures complete { IfSome (S.left source.old) (λ text. Ends (expected (command_of (map string_bytes words.now)) text result.runs)
         (Rose (S.faults source.old) (S.faults source.new)) (Rose (K.faults sink.old) (K.faults sink.new)) result.status) }
 
-    // The journal is the load's, and the runs are the load's, with the goal's run over that journal behind them. Each goal of the
-    // text and that of the words has the steps of the words at most.
-    ensures journal { IsLoaded result.status → IfSome (S.left source.old) (λ text. result.journal ≡ journal_of sizes text) }
+    // The journal begins with the load's, and the runs with the load's runs; behind them are the goal's run over that journal, and
+    // the entries that it made. The journal is legal. Each goal of the text and that of the words has the steps of the words at
+    // most.
     ensures loaded { HasRuns result.status → Under result.ops (HasRun sizes (command_of (map string_bytes words.now)) (S.left source.old) (S.left source.new) result.journal result.runs) }
     ensures loaded_in_part { result.status ≡ 3 → Under result.ops (HasRefused sizes (command_of (map string_bytes words.now)) (S.left source.old) (S.left source.new)
         result.journal result.runs (Rose (K.faults sink.old) (K.faults sink.new)) (K.written sink.old) (K.written sink.new)) }

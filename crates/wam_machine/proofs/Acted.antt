@@ -10,10 +10,10 @@ use Rattle.prolog_terms.specs.declared.entry.Indicator.{Indicator}
 use Rattle.prolog_terms.specs.declared.fault.Fault.{Fault}
 use Rattle.term_store.specs.Terms.{trees_of}
 use Rattle.term_store.specs.declared.cell.Cell.{Cell}
-use Rattle.journal_base.specs.Calls.{Goal}
-use Rattle.journal_base.specs.Journal.{Journal}
+use Rattle.journal_base.specs.Goals.{Goal}
+use Rattle.journals.specs.Journal.{Journal}
 use Rattle.wam_machine.specs.Machine as spec
-use Rattle.wam_machine.specs.Machine.{Next, Alternative, State, Outcome, Goes, Look, cut_to, onwards, pushed, height, raises}
+use Rattle.wam_machine.specs.Machine.{Next, Alternative, State, Outcome, Goes, Look, Deed, cut_to, onwards, pushed, height, raises}
 use Rattle.wam_machine.specs.Terms.{Left, Turn, Saved, Said, AreTerms, KeepsCells, said, call_in, calls_in}
 use Rattle.wam_machine.specs.View.{Acts, alternative_of, choice_of, stack_of, state_from, state_with, state_of, mode_of, calls}
 use Rattle.wam_machine.specs.declared.run.Event.{Event}
@@ -47,7 +47,7 @@ calls-beside {C} ss s e = calls-push ss s ∙ ap (λ (o : Option (Left C)). call
 
 module _ {C : Type 0} (old new : Machine C) (terms : AreTerms new.terms) (same : new ≡ record old { mode = new.mode; terms = new.terms }) where
   pub acts : (f : State → Outcome) (t : Said C) → said new.terms ≡ t → t.shown ≡ (said old.terms).shown → calls_in t.stack ≡ calls old
-      → ((rest : C → Goal → Journal → List ℕ) (at : C → ℕ) (j : Journal) (steps : ℕ) (events : List Event) (front : ℕ) (looks : List Look) (tried : ℕ) (fronts : List ℕ)
+      → ((rest : C → Goal → Journal → List ℕ) (at : C → ℕ) (j : Journal) (steps : ℕ) (events : List Event) (front : ℕ) (looks : List Deed) (tried : ℕ) (fronts : List ℕ)
       → f (state_with rest at j (said old.terms) (mode_of old.mode) steps events front looks tried fronts) ≡ Goes (state_with rest at j t (mode_of new.mode) steps events front looks tried fronts))
       → Acts f old new
   acts f t is shown calls_are goes = record {

@@ -3,12 +3,12 @@ use Rattle.std.proofs.Common.{◌≡◌, ℕ, ◌+◌, Bool, true, false, List, 
 use Rattle.prolog_terms.specs.Tree.{Tree, Trees}
 use Rattle.prolog_terms.specs.Operators.{Table}
 use Rattle.prolog_terms.specs.declared.entry.Indicator.{Indicator}
-use Rattle.journal_base.specs.Calls.{Goal}
-use Rattle.journal_base.specs.Journal.{Journal}
+use Rattle.journal_base.specs.Goals.{Goal}
+use Rattle.journals.specs.Journal.{Journal}
 use Rattle.term_builtins.specs.Meanings.{Meaning, Holds, Equates, Writes, Puts, Raises}
 use Rattle.term_unifier.specs.Unifier.{unifier}
 use Rattle.wam_machine.specs.Called.{IsCalled, IsRowCalled}
-use Rattle.wam_machine.specs.Machine.{Look, Goes, coming_to, calling_builtin, solving}
+use Rattle.wam_machine.specs.Machine.{Look, Deed, Goes, coming_to, calling_builtin, solving}
 use Rattle.wam_machine.specs.Terms.{Saved, Said, AreTerms, IsSolved, said, calls_in}
 use Rattle.wam_machine.specs.View.{Acts, mode_of, settled_mode, state_with}
 use Rattle.wam_machine.specs.declared.builtins.Called.{Called}
@@ -61,7 +61,7 @@ called-keeps ops old new i (Raises fault) No d = absurd d
 called-keeps ops old new i (Raises fault) (Wrote w) d = absurd d
 called-keeps {C} ops old new i (Raises fault) (Ball u) d = (ap (λ (s : Said C). s.shown) d.1, ap (λ (s : Said C). s.stack) d.1)
 
-module _ {C : Type 0} (rest : C → Goal → Journal → List ℕ) (at : C → ℕ) (j : Journal) (mode : Mode) (steps : ℕ) (events : List Event) (front : ℕ) (looks : List Look) (tried : ℕ) (fronts : List ℕ) where
+module _ {C : Type 0} (rest : C → Goal → Journal → List ℕ) (at : C → ℕ) (j : Journal) (mode : Mode) (steps : ℕ) (events : List Event) (front : ℕ) (looks : List Deed) (tried : ℕ) (fronts : List ℕ) where
   solved : (old new : Said C) (done : Bool) (o : Option (ℕ → Tree)) → IsSolved [] old new done o
       → solving [] (state_with rest at j old (mode_of mode) steps events front looks tried fronts) o ≡ Goes (state_with rest at j new (mode_of (settled_mode mode done)) steps events front looks tried fronts)
   solved old new done None h = rw (h.0, h.1) refl

@@ -4,11 +4,11 @@ use Rattle.std.specs.Prelude.{◌==◌, MatchOption, nat_lt, if◌then◌else◌
 use Rattle.std.proofs.lemmas.Bool.Decides.{nat_tests}
 use Rattle.std.proofs.lemmas.List.{length-append, take-append-le, take_all}
 use Rattle.prolog_terms.specs.Tree.{Tree}
-use Rattle.journal_base.specs.Calls.{Goal}
-use Rattle.journal_base.specs.Journal.{Journal}
-use Rattle.journal_base.specs.View.{Out}
+use Rattle.journal_base.specs.Goals.{Goal}
+use Rattle.journals.specs.Journal.{Journal}
+use Rattle.journal_base.specs.View.{View, Out}
 use Rattle.wam_machine.specs.Machine as spec
-use Rattle.wam_machine.specs.Machine.{State, Setting, Outcome, Goes, Ends, Look, height, cut_to, cut_back, leaving_catch, over, active_catch, caught, raising, reached, reaching, halting, move}
+use Rattle.wam_machine.specs.Machine.{State, Setting, Outcome, Goes, Ends, Deed, height, cut_to, cut_back, leaving_catch, over, active_catch, caught, raising, reached, reaching, halting, move}
 use Rattle.wam_machine.specs.Terms.{Turn, OfCall, OfRight, OfRepeat, OfNot, OfCatch, OfFindall, AreTerms, HasCatch, is_catch, said, calls_in}
 use Rattle.wam_machine.specs.View.{alternative_of, choice_of, stack_of, state_of, mode_of, calls, Acts, AreKept, GoesOn, ComesToEnd, Does, IsHeld, IsHeldIn, IsLeft}
 use Rattle.wam_machine.specs.declared.run.RunEnd.{RunEnd}
@@ -55,12 +55,12 @@ no_lower m n h = grind (arith, nat_tests)
 module _ {C : Type 0} (rest : C → Goal → Journal → List ℕ) (may : C → Goal → Journal → ℕ) (at : C → ℕ) (ahead : C → ℕ) (causes : List ℕ) where
   -- by a function that gives the same there
   pub goes_as : (f h : State → Outcome) (j : Journal) (old new : Machine C)
-      → ((looks : List Look) (tried : ℕ) (fronts : List ℕ) → h (state_of rest at j old looks tried fronts) ≡ f (state_of rest at j old looks tried fronts))
-      → GoesOn rest may at ahead causes f j old new → GoesOn rest may at ahead causes h j old new
+      → ((looks : List Deed) (tried : ℕ) (fronts : List ℕ) → h (state_of rest at j old looks tried fronts) ≡ f (state_of rest at j old looks tried fronts))
+      → GoesOn rest may at ahead causes [] f j old new → GoesOn rest may at ahead causes [] h j old new
   goes_as f h j old new by on = through rest may at ahead causes f h j old old new refl refl refl by on
 
   pub goes_leaving : (h kept : ℕ) (j : Journal) (old new : Machine C) → kept ≡ (if length (said old.terms).stack == h then h - 1 else length (said old.terms).stack)
-      → GoesOn rest may at ahead causes (λ s. Goes (cut_back kept s)) j old new → GoesOn rest may at ahead causes (λ s. Goes (leaving_catch h s)) j old new
+      → GoesOn rest may at ahead causes [] (λ s. Goes (cut_back kept s)) j old new → GoesOn rest may at ahead causes [] (λ s. Goes (leaving_catch h s)) j old new
   goes_leaving h kept j old new is on =
       goes_as (λ s. Goes (cut_back kept s)) (λ s. Goes (leaving_catch h s)) j old new
       (λ looks tried fronts.
@@ -73,7 +73,7 @@ module _ {C : Type 0} (rest : C → Goal → Journal → List ℕ) (may : C → 
 
   -- what is above the mark of the active `catch` is taken away
   pub goes_caught : (x : Setting) (ball : Tree) (h : ℕ) (j : Journal) (old new : Machine C) → Some h ≡ active_catch (said old.terms).goals → h < length (said old.terms).stack
-      → GoesOn rest may at ahead causes (λ s. Goes (cut_back h s)) j old new → GoesOn rest may at ahead causes (λ s. raising x s ball) j old new
+      → GoesOn rest may at ahead causes [] (λ s. Goes (cut_back h s)) j old new → GoesOn rest may at ahead causes [] (λ s. raising x s ball) j old new
   goes_caught x ball h j old new active high on =
       goes_as (λ s. Goes (cut_back h s)) (λ s. raising x s ball) j old new
       (λ looks tried fronts.
@@ -83,9 +83,9 @@ module _ {C : Type 0} (rest : C → Goal → Journal → List ℕ) (may : C → 
 
   -- the mark is reached
   pub does_reach : (x : Setting) (ball : Tree) (h : ℕ) (old new : Machine C) (o : Option RunEnd) → Some h ≡ active_catch (said old.terms).goals → length (said old.terms).stack ≤ h
-      → Does rest may at ahead causes (λ s. reached x ball s s.stack) x old new o → Does rest may at ahead causes (λ s. raising x s ball) x old new o
+      → Does rest may at ahead causes [] (λ s. reached x ball s s.stack) x old new o → Does rest may at ahead causes [] (λ s. raising x s ball) x old new o
   does_reach x ball h old new o active low on =
-      does_through rest may at ahead causes (λ s. reached x ball s s.stack) (λ s. raising x s ball) x old old new o refl refl refl
+      does_through rest may at ahead causes [] (λ s. reached x ball s s.stack) (λ s. raising x s ball) x old old new o refl refl refl
       (λ looks tried fronts.
       let s : State = state_of rest at x.journal old looks tried fronts in
       ap (λ (k : Option ℕ). caught x ball s k) (sym active)
@@ -94,7 +94,7 @@ module _ {C : Type 0} (rest : C → Goal → Journal → List ℕ) (may : C → 
 
   -- another moment stands there, and is taken away
   pub goes_dropping : (x : Setting) (ball : Tree) (k : ℕ) (j : Journal) (old new : Machine C) → k ≡ length (said old.terms).stack - 1 → HasCatch (said old.terms).stack false
-      → GoesOn rest may at ahead causes (λ s. Goes (cut_back k s)) j old new → GoesOn rest may at ahead causes (λ s. reached x ball s s.stack) j old new
+      → GoesOn rest may at ahead causes [] (λ s. Goes (cut_back k s)) j old new → GoesOn rest may at ahead causes [] (λ s. reached x ball s s.stack) j old new
   goes_dropping x ball k j old new is (ss, (u, (stack, other))) on =
       goes_as (λ s. Goes (cut_back k s)) (λ s. reached x ball s s.stack) j old new
       (λ looks tried fronts.
@@ -115,35 +115,36 @@ module _ {C : Type 0} (rest : C → Goal → Journal → List ℕ) (may : C → 
   -- ---- the end of a run
 
   pub comes_over : (f : State → Outcome) (x : Setting) (old new : Machine C) (end : RunEnd) → new ≡ record old { mode = new.mode }
-      → ((looks : List Look) (tried : ℕ) → f (state_of rest at x.journal old looks tried []) ≡ over x (state_of rest at x.journal old looks tried []) end) → ComesToEnd rest at f x old new end
+      → ((looks : List Deed) (tried : ℕ) → f (state_of rest at x.journal old looks tried []) ≡ over x (state_of rest at x.journal old looks tried []) end) → ComesToEnd rest at [] f x old new end
   comes_over f x old new end same by = record {
+    made_is = refl;
     fronts_are = ap (λ (m : Machine C). m.fronts.items) same;
     tally_is = ap (λ (m : Machine C). m.tally) same;
-    ends = λ made looks tried.
-        by looks tried
-        ∙ over-ended x (state_of rest at x.journal old looks tried []) end made refl
-        ∙ ap (λ (m : Machine C). Ends (record { events = m.events.items; looks = looks; tried = tried; steps = m.steps; end = end })) (sym same);
+    ends = λ deeds tried.
+        by deeds tried
+        ∙ over-ended x (state_of rest at x.journal old deeds tried []) end refl
+        ∙ ap (λ (m : Machine C). Ends (record { events = m.events.items; deeds = deeds; tried = tried; steps = m.steps; end = end })) (sym same);
   }
 
   -- a ball that nothing catches
   pub does_uncaught : (f : State → Outcome) (x : Setting) (old new : Machine C) (ball : Tree) (o : Option RunEnd) → old.mode ≡ RaisingBall ball → new ≡ record old { mode = new.mode }
       → MatchOption o ⊥ (λ end. (b : Tree) × ((old.mode ≡ RaisingBall b) × (end ≡ Ball b)))
-      → ((looks : List Look) (tried : ℕ) → f (state_of rest at x.journal old looks tried []) ≡ over x (state_of rest at x.journal old looks tried []) (Ball ball))
-      → Does rest may at ahead causes f x old new o
+      → ((looks : List Deed) (tried : ℕ) → f (state_of rest at x.journal old looks tried []) ≡ over x (state_of rest at x.journal old looks tried []) (Ball ball))
+      → Does rest may at ahead causes [] f x old new o
   does_uncaught f x old new ball None mode same h by = absurd h
   does_uncaught f x old new ball (Some end) mode same h by =
       let is : end ≡ Ball ball = h.1.1 ∙ ap (λ (t : Tree). Ball t) (same_ball h.0 ball (sym h.1.0 ∙ mode)) in
-      subst (λ (e : RunEnd). ComesToEnd rest at f x old new e) (sym is) (comes_over f x old new (Ball ball) same by)
+      subst (λ (e : RunEnd). ComesToEnd rest at [] f x old new e) (sym is) (comes_over f x old new (Ball ball) same by)
 
   pub does_outside : (x : Setting) (old new : Machine C) (ball : Tree) (o : Option RunEnd) → old.mode ≡ RaisingBall ball → new ≡ record old { mode = new.mode }
       → MatchOption o ⊥ (λ end. (b : Tree) × ((old.mode ≡ RaisingBall b) × (end ≡ Ball b))) → None ≡ active_catch (said old.terms).goals
-      → Does rest may at ahead causes (λ s. raising x s ball) x old new o
+      → Does rest may at ahead causes [] (λ s. raising x s ball) x old new o
   does_outside x old new ball o mode same h none =
       does_uncaught (λ s. raising x s ball) x old new ball o mode same h (λ looks tried. ap (λ (k : Option ℕ). caught x ball (state_of rest at x.journal old looks tried []) k) (sym none))
 
   pub does_below : (x : Setting) (old new : Machine C) (ball : Tree) (o : Option RunEnd) → old.mode ≡ RaisingBall ball → new ≡ record old { mode = new.mode }
       → MatchOption o ⊥ (λ end. (b : Tree) × ((old.mode ≡ RaisingBall b) × (end ≡ Ball b))) → (said old.terms).stack ≡ []
-      → Does rest may at ahead causes (λ s. reached x ball s s.stack) x old new o
+      → Does rest may at ahead causes [] (λ s. reached x ball s s.stack) x old new o
   does_below x old new ball o mode same h none =
       does_uncaught (λ s. reached x ball s s.stack) x old new ball o mode same h
       (λ looks tried. ap (λ (cs : List spec.Choice). reached x ball (state_of rest at x.journal old looks tried []) cs) (ap (stack_of rest at x.journal) none))
@@ -152,17 +153,17 @@ module _ {C : Type 0} (rest : C → Goal → Journal → List ℕ) (may : C → 
 
   pub does_halt : (w : Tree) (x : Setting) (old new : Machine C) (o : Option RunEnd)
       → MatchOption o ((y : Setting) → Acts (halting y w) old new) (λ end. (new ≡ old) × ((y : Setting) (s : State) → halting y w s ≡ over y s end))
-      → IsHeldIn rest may at x.journal old.tally (calls old) → Does rest may at ahead causes (halting x w) x old new o
+      → IsHeldIn rest may at x.journal old.tally (calls old) → Does rest may at ahead causes [] (halting x w) x old new o
   does_halt w x old new None h held = acts_goes (halting x w) old new (h x) rest may at ahead causes x.journal held
   does_halt w x old new (Some end) h held =
-      subst (λ (m : Machine C). ComesToEnd rest at (halting x w) x old m end) (sym h.0) (comes_over (halting x w) x old old end refl (λ looks tried. h.1 x (state_of rest at x.journal old looks tried [])))
+      subst (λ (m : Machine C). ComesToEnd rest at [] (halting x w) x old m end) (sym h.0) (comes_over (halting x w) x old old end refl (λ looks tried. h.1 x (state_of rest at x.journal old looks tried [])))
 
   -- ---- a move is that of a ball
 
   pub does_raising : (x : Setting) (old new : Machine C) (ball : Tree) (o : Option RunEnd) → old.mode ≡ RaisingBall ball
-      → Does rest may at ahead causes (λ s. raising x s ball) x old new o → Does rest may at ahead causes (move x) x old new o
+      → Does rest may at ahead causes [] (λ s. raising x s ball) x old new o → Does rest may at ahead causes [] (move x) x old new o
   does_raising x old new ball o mode on =
-      does_through rest may at ahead causes (λ s. raising x s ball) (move x) x old old new o refl refl refl
+      does_through rest may at ahead causes [] (λ s. raising x s ball) (move x) x old old new o refl refl refl
       (λ looks tried fronts. raises_so (state_of rest at x.journal old looks tried fronts) (ap mode_of mode)) on
     where
       raises_so : (s : State) → s.mode ≡ spec.Raising ball → move x s ≡ raising x s ball
@@ -174,9 +175,9 @@ module _ {C : Type 0} (old new : Machine C) (same : new ≡ record old { mode = 
   terms_are : new.terms ≡ old.terms
   terms_are = ap (λ (m : Machine C). m.terms) same
 
-  pub left_mode : (budget seen : ℕ) → AreTerms old.terms → IsHeld budget seen old.steps old.front (length (calls old)) old.tally → IsLeft budget seen old new
-  left_mode budget seen terms held =
-      left_same budget seen old new (subst (λ (t : Terms C). AreTerms t) (sym terms_are) terms) (ap (λ (t : Terms C). (said t).shown) terms_are) (ap (λ (t : Terms C). calls_in (said t).stack) terms_are)
+  pub left_mode : (budget : ℕ) (v : View) → AreTerms old.terms → IsHeld budget v old.steps old.front (length (calls old)) old.tally → IsLeft budget v old new
+  left_mode budget v terms held =
+      left_same budget v old new (subst (λ (t : Terms C). AreTerms t) (sym terms_are) terms) (ap (λ (t : Terms C). (said t).shown) terms_are) (ap (λ (t : Terms C). calls_in (said t).stack) terms_are)
       (ap (λ (m : Machine C). m.steps) same) (ap (λ (m : Machine C). m.front) same) (ap (λ (m : Machine C). m.tally) same) held
 
   pub kept_mode : (serves : C → Goal → Type 0) (group : C → ℕ) (out : Out) → AreKept serves group out (calls old) → AreKept serves group out (calls new)
@@ -184,9 +185,9 @@ module _ {C : Type 0} (old new : Machine C) (same : new ≡ record old { mode = 
 
 module _ {C : Type 0} (w : Tree) (old new : Machine C) where
   pub left_halt : (o : Option RunEnd) (x : Setting) → MatchOption o ((y : Setting) → Acts (halting y w) old new) (λ end. (new ≡ old) × ((y : Setting) (s : State) → halting y w s ≡ over y s end))
-      → (budget seen : ℕ) → AreTerms old.terms → IsHeld budget seen old.steps old.front (length (calls old)) old.tally → IsLeft budget seen old new
-  left_halt None x h budget seen terms held = acts_left (halting x w) old new (h x) budget seen held
-  left_halt (Some end) x h budget seen terms held = subst (λ (m : Machine C). IsLeft budget seen old m) (sym h.0) (left_mode old old refl budget seen terms held)
+      → (budget : ℕ) (v : View) → AreTerms old.terms → IsHeld budget v old.steps old.front (length (calls old)) old.tally → IsLeft budget v old new
+  left_halt None x h budget v terms held = acts_left (halting x w) old new (h x) budget v held
+  left_halt (Some end) x h budget v terms held = subst (λ (m : Machine C). IsLeft budget v old m) (sym h.0) (left_mode old old refl budget v terms held)
 
   pub kept_halt : (o : Option RunEnd) (x : Setting) → MatchOption o ((y : Setting) → Acts (halting y w) old new) (λ end. (new ≡ old) × ((y : Setting) (s : State) → halting y w s ≡ over y s end))
       → (serves : C → Goal → Type 0) (group : C → ℕ) (out : Out) → AreKept serves group out (calls old) → AreKept serves group out (calls new)

@@ -7,9 +7,9 @@ use Rattle.std.proofs.lemmas.List.Elements.{filter-append}
 use Rattle.prolog_terms.specs.declared.entry.Entry.{Entry}
 use Rattle.prolog_terms.specs.declared.entry.End.{End}
 use Rattle.prolog_terms.specs.declared.entry.End.TheVariants.{Front, Back}
-use Rattle.journal_base.specs.Numbers.{numbers_from}
-use Rattle.journal_base.specs.Journal.{Journal, adds_to, adds_at, additions, chain}
-use Rattle.journal_base.specs.Calls.{Goal}
+use Rattle.journals.specs.Numbers.{numbers_from}
+use Rattle.journals.specs.Journal.{Journal, adds_to, adds_at, additions, chain}
+use Rattle.journal_base.specs.Goals.{Goal}
 use Rattle.journal_base.specs.Looks.{IsFair, IsFairScan}
 use Rattle.journal_base.specs.declared.cause.How.{How}
 use Rattle.journal_base.specs.declared.cause.How.TheVariants.{Indexed, Scanned}

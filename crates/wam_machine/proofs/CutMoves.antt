@@ -5,10 +5,11 @@ use Rattle.std.specs.List.{sum_by}
 use Rattle.std.proofs.lemmas.List.{length-append, take-append-drop}
 use Rattle.std.proofs.lemmas.List.Elements.{All-nil, All-cons, All-head, All-tail, filter_map-append}
 use Rattle.std.proofs.lemmas.List.Sums.{sum_by-append}
-use Rattle.journal_base.specs.Calls.{Goal}
-use Rattle.journal_base.specs.Journal.{Journal}
+use Rattle.journal_base.specs.Goals.{Goal}
+use Rattle.journals.specs.Journal.{Journal}
 use Rattle.wam_machine.specs.Machine as spec
-use Rattle.wam_machine.specs.Machine.{State, Outcome, Goes, Look, cut_back, fails}
+use Rattle.journal_base.specs.View.{View, Looks}
+use Rattle.wam_machine.specs.Machine.{State, Outcome, Goes, cut_back, fails}
 use Rattle.wam_machine.specs.Terms.{Left, Saved, Said, AreTerms, said, call_in, calls_in}
 use Rattle.wam_machine.specs.Cursors.{AreNamed, visits_left}
 use Rattle.wam_machine.specs.View.{state_with, state_from, state_of, mode_of, calls, Works, GoesOn, IsHeld, IsHeldIn, IsLeft}
@@ -16,6 +17,7 @@ use Rattle.wam_machine.specs.declared.state.Machine.{Machine}
 use Rattle.wam_machine.specs.declared.state.Mode.TheVariants.{Failing as IsFailing}
 use Rattle.wam_machine.specs.declared.terms.Terms.{Terms}
 use Rattle.wam_machine.proofs.Acted.{stack-cut}
+use Rattle.wam_machine.proofs.Begins.{below_on}
 
 -- ---- the calls below a height
 
@@ -42,15 +44,16 @@ module _ {C : Type 0} (rest : C → Goal → Journal → List ℕ) (may : C → 
   -- ---- a cut
 
   pub goes_cut : (h : ℕ) (j : Journal) (old : Machine C) (t : Terms C) → said t ≡ record (said old.terms) { stack = take h (said old.terms).stack } → IsHeldIn rest may at j old.tally (calls old)
-      → GoesOn rest may at ahead causes (λ s. Goes (cut_back h s)) j old (record old { terms = t })
+      → GoesOn rest may at ahead causes [] (λ s. Goes (cut_back h s)) j old (record old { terms = t })
   goes_cut h j old t is held =
       let ss = (said old.terms).stack in
       let now : calls_in (said t).stack ≡ calls_in (take h ss) = ap (λ (s : Said C). calls_in s.stack) is in
       record {
         added = [];
-        looked = [];
+        deeds = [];
         hows = [];
         given = 0;
+        made_is = refl;
         fronts_are = sym (append-nil old.fronts.items);
         goes = λ looks tried fronts.
             ap (λ st. Goes (state_from (said old.terms).goals st (said old.terms).bindings (said old.terms).fresh (mode_of old.mode) old.steps old.events.items old.front looks tried fronts)) (stack-cut rest at j ss h)
@@ -78,13 +81,14 @@ module _ {C : Type 0} (rest : C → Goal → Journal → List ℕ) (may : C → 
 
   -- ---- and then a failure
 
-  pub goes_failing : (f : State → State) (j : Journal) (old mid : Machine C) → GoesOn rest may at ahead causes (λ s. Goes (f s)) j old mid
-      → GoesOn rest may at ahead causes (λ s. fails (f s)) j old (record mid { mode = IsFailing })
+  pub goes_failing : (f : State → State) (j : Journal) (old mid : Machine C) → GoesOn rest may at ahead causes [] (λ s. Goes (f s)) j old mid
+      → GoesOn rest may at ahead causes [] (λ s. fails (f s)) j old (record mid { mode = IsFailing })
   goes_failing f j old mid on = record {
     added = on.added;
-    looked = on.looked;
+    deeds = on.deeds;
     hows = on.hows;
     given = on.given;
+    made_is = on.made_is;
     fronts_are = on.fronts_are;
     goes = λ looks tried fronts. ap failed (on.goes looks tried fronts);
     works = on.works;
@@ -98,9 +102,9 @@ module _ {C : Type 0} (rest : C → Goal → Journal → List ℕ) (may : C → 
 
 -- ---- what is left
 
-pub left_cut : {C : Type 0} (budget before after : ℕ) (h : ℕ) (old : Machine C) (t : Terms C) → AreTerms t → said t ≡ record (said old.terms) { stack = take h (said old.terms).stack }
-    → IsHeld budget before old.steps old.front (length (calls old)) old.tally → before ≤ after → IsLeft budget after old (record old { terms = t })
-left_cut budget before after h old t terms is held grows =
+pub left_cut : {C : Type 0} (budget : ℕ) (v w : View) (h : ℕ) (old : Machine C) (t : Terms C) → AreTerms t → said t ≡ record (said old.terms) { stack = take h (said old.terms).stack }
+    → IsHeld budget v old.steps old.front (length (calls old)) old.tally → Looks v w → IsLeft budget w old (record old { terms = t })
+left_cut budget v w h old t terms is held seen =
     let now : length (calls_in (said t).stack) ≡ length (calls_in (take h (said old.terms).stack)) = ap (λ (s : Said _). length (calls_in s.stack)) is in
     record {
       terms = terms;
@@ -108,7 +112,8 @@ left_cut budget before after h old t terms is held grows =
       held = record {
         within = held.within;
         few = omega (arith, now, few-cut h (said old.terms).stack, held.few);
-        reached = omega (arith, held.reached, grows);
+        reached = omega (arith, held.reached, seen.grows.front);
+        below = below_on v w old.front seen held.below;
         looks = held.looks;
         scans = held.scans;
         kept = held.kept;

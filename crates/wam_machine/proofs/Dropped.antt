@@ -3,7 +3,7 @@ use Rattle.std.proofs.Common.{◌≡◌, ℕ, ◌+◌, ◌<◌, List, [], ◌∷
 use Rattle.std.specs.List.{cons_option}
 use Rattle.std.specs.Prelude.{Option, Some, None}
 use Rattle.std.proofs.lemmas.List.{length-append, take-append-le}
-use Rattle.journal_base.specs.Calls.{Goal}
+use Rattle.journal_base.specs.Goals.{Goal}
 use Rattle.journal_base.specs.View.{Out, opened}
 use Rattle.wam_machine.specs.Cursors.{goal_of}
 use Rattle.wam_machine.specs.Choices.{IsCallOf}

@@ -1,18 +1,23 @@
 -- The rows, computed.
-use Rattle.std.proofs.Common.{◌≡◌, ℕ, List, ◌∷◌, zero, suc, refl, [], subst, Option, Some, None, ◌∙◌, ap}
+use Rattle.std.proofs.Common.{◌≡◌, ℕ, List, ◌∷◌, zero, suc, refl, [], subst, drop, Option, Some, None, sym, ◌∙◌, ap}
 use Rattle.prolog_terms.specs.Faults.{error_tree, fault_tree}
 use Rattle.prolog_terms.specs.Tree.{Tree, variable, atom, compound}
-use Rattle.journal_base.specs.Journal.{Journal}
+use Rattle.prolog_terms.specs.declared.entry.Entry.{Entry}
+use Rattle.prolog_terms.specs.declared.entry.End.TheVariants.{Front, Back}
+use Rattle.journals.specs.Journal.{Journal}
+use Rattle.journal_base.specs.Space.{clause_words, need, used}
+use Rattle.journal_base.specs.View.{entries_by}
+use Rattle.wam_machine.specs.Reserved.{is_reserved, control, of_terms, of_texts, of_numbers, of_clauses}
 use Rattle.wam_machine.specs.declared.run.Event.{Event}
 use Rattle.wam_machine.specs.declared.run.RunEnd.{RunEnd}
 use Rattle.wam_machine.specs.declared.run.RunEnd.TheVariants.{Exhausted, Ball, Spent, Halted}
-use Rattle.prolog_terms.specs.declared.fault.Fault.TheVariants.{Existence, Instantiation, OfType, Representation}
+use Rattle.prolog_terms.specs.declared.fault.Fault.TheVariants.{Existence, Instantiation, OfType, Representation, Resource}
 use Rattle.std.specs.Prelude.{codes, pos}
 use Rattle.term_unifier.specs.Unifier.{unifier}
-use Rattle.journal_base.specs.Keys.{keys, could_match}
+use Rattle.call_patterns.specs.Keys.{keys, could_match}
 use Rattle.wam_machine.specs.Control.{plain}
-use Rattle.wam_machine.specs.Machine.{calling_builtin, Setting, State, Report, Outcome, Goes, Ends, Unfit, Runs, ends, goes, move, beginning, Transcript}
-use Rattle.wam_machine.specs.Rows.{Gives, Alone, HasRows, catches, finds, findall_three, either_y, y, nil, two, throws, halts, halts_with, catch_three, throw_one, halt_one, a, a_cut, a_loop, a_rule, any_between, b, both, c, call, called, closed, copied_number, copies, cut, denied, equal, failure, is_free, is_one, is_two, list_of, mem, members, number, on, once, one, one_and_more, one_or_two, one_pair, opened, or, p, repeats, then, three_facts, trees, truth, uncallable, x}
+use Rattle.wam_machine.specs.Machine.{calling_builtin, accessing, made_in, Setting, State, Report, Outcome, Goes, Ends, Unfit, Runs, ends, goes, move, beginning, Transcript}
+use Rattle.wam_machine.specs.Rows.{GivesIn, Gives, Refuses, Alone, changed, declares, adds, k, a_dynamic, a_static, asserta, assertz, asserta_one, assertz_one, static, HasRows, catches, finds, findall_three, either_y, y, nil, two, throws, halts, halts_with, catch_three, throw_one, halt_one, a, a_cut, a_loop, a_rule, any_between, b, both, c, call, called, closed, copied_number, copies, cut, denied, equal, failure, is_free, is_one, is_two, list_of, mem, members, number, on, once, one, one_and_more, one_or_two, one_pair, opened, or, p, repeats, then, three_facts, trees, truth, uncallable, x}
 
 -- what a run gives within so many moves
 abbrev run_within : ℕ → Setting → State → Option Report
@@ -30,26 +35,34 @@ within x zero s r h = absurd (cc h)
 within x (suc n) s r h = within_next x n s r (λ t. within x n t r) (move x s) refl h
 
 -- a report without its looks and tries
-abbrev told : Option Report → Option (List Event × (ℕ × RunEnd))
+abbrev told : Option Report → Option (List Event × (ℕ × (RunEnd × List Entry)))
 told None = None
-told (Some r) = Some (r.events, (r.steps, r.end))
+told (Some r) = Some (r.events, (r.steps, (r.end, made_in r.deeds)))
 
-gives_so : (j : Journal) (budget : ℕ) (goal : Tree) (shown : List Tree) (fronts : List ℕ) (events : List Event) (steps : ℕ) (end : RunEnd) (o : Option Report)
-    → ((r : Report) → o ≡ Some r → Transcript (on j budget shown) goal fronts r) → told o ≡ Some (events, (steps, end)) → Gives j budget goal shown fronts events steps end
-gives_so j budget goal shown fronts events steps end None runs h = absurd (cc h)
-gives_so j budget goal shown fronts events steps end (Some r) runs h =
-    let e : ◌≡◌ {A = List Event × (ℕ × RunEnd)} (r.events, (r.steps, r.end)) (events, (steps, end)) = cc h in
+-- with the updates that the engine made by the journal
+abbrev wanted : Setting → List Event → ℕ → RunEnd → Option (List Event × (ℕ × (RunEnd × List Entry)))
+wanted x events steps end = Some (events, (steps, (end, entries_by x.engine (drop x.start x.journal))))
+
+gives_so : (x : Setting) (goal : Tree) (fronts : List ℕ) (events : List Event) (steps : ℕ) (end : RunEnd) (o : Option Report)
+    → ((r : Report) → o ≡ Some r → Runs x (beginning x goal fronts) r) → told o ≡ wanted x events steps end → GivesIn x goal fronts events steps end
+gives_so x goal fronts events steps end None runs h = absurd (cc h)
+gives_so x goal fronts events steps end (Some r) runs h =
+    let e : ◌≡◌ {A = List Event × (ℕ × (RunEnd × List Entry))} (r.events, (r.steps, (r.end, made_in r.deeds))) (events, (steps, (end, entries_by x.engine (drop x.start x.journal)))) = cc h in
     record {
-      looks = r.looks;
+      deeds = r.deeds;
       tried = r.tried;
-      transcript = subst (λ (k : List Event × (ℕ × RunEnd)). Transcript (on j budget shown) goal fronts (record { events = k.0; looks = r.looks; tried = r.tried; steps = k.1.0; end = k.1.1 })) e (runs r refl);
+      transcript = subst (λ (k : List Event × (ℕ × (RunEnd × List Entry))). Transcript x goal fronts (record { events = k.0; deeds = r.deeds; tried = r.tried; steps = k.1.0; end = k.1.1.0 })) e
+          (record { runs = runs r refl; own = sym (ap (λ (k : List Event × (ℕ × (RunEnd × List Entry))). k.1.1.1) e) });
     }
 
+gives_in : (n : ℕ) (x : Setting) (goal : Tree) (fronts : List ℕ) (events : List Event) (steps : ℕ) (end : RunEnd)
+    → told (run_within n x (beginning x goal fronts)) ≡ wanted x events steps end → GivesIn x goal fronts events steps end
+gives_in n x goal fronts events steps end h =
+    gives_so x goal fronts events steps end (run_within n x (beginning x goal fronts)) (λ r e. within x n (beginning x goal fronts) r e) h
+
 gives : (n : ℕ) (j : Journal) (budget : ℕ) (goal : Tree) (shown : List Tree) (fronts : List ℕ) (events : List Event) (steps : ℕ) (end : RunEnd)
-    → told (run_within n (on j budget shown) (beginning (on j budget shown) goal fronts)) ≡ Some (events, (steps, end)) → Gives j budget goal shown fronts events steps end
-gives n j budget goal shown fronts events steps end h =
-    gives_so j budget goal shown fronts events steps end (run_within n (on j budget shown) (beginning (on j budget shown) goal fronts))
-    (λ r e. within (on j budget shown) n (beginning (on j budget shown) goal fronts) r e) h
+    → told (run_within n (on j budget shown) (beginning (on j budget shown) goal fronts)) ≡ wanted (on j budget shown) events steps end → Gives j budget goal shown fronts events steps end
+gives n j budget goal shown fronts events steps end h = gives_in n (on j budget shown) goal fronts events steps end h
 
 row_true_goal : Gives [] 100 truth [] [] (closed [] ∷ []) 1 Exhausted
 unfolding unifier keys could_match error_tree fault_tree plain calling_builtin
@@ -523,6 +536,54 @@ row_found_unbound : Alone (finds y (variable 2) x) [] 2 (Ball (fault_tree Instan
 unfolding unifier keys could_match error_tree fault_tree plain calling_builtin
 row_found_unbound = gives 60 [] 100 (finds y (variable 2) x) (x ∷ []) [] [] 2 (Ball (fault_tree Instantiation (called 1))) refl
 
+row_added : GivesIn (changed 1000 [] (declares 1 (codes "k") 1 ∷ adds Back 0 (k 1) ∷ []) []) (assertz (k 1)) (0 ∷ 1 ∷ 2 ∷ []) (closed [] ∷ []) 1 Exhausted
+unfolding unifier keys could_match error_tree fault_tree plain calling_builtin accessing is_reserved control of_terms of_texts of_numbers of_clauses clause_words need used
+row_added = gives_in 60 (changed 1000 [] (declares 1 (codes "k") 1 ∷ adds Back 0 (k 1) ∷ []) []) (assertz (k 1)) (0 ∷ 1 ∷ 2 ∷ []) (closed [] ∷ []) 1 Exhausted refl
+
+row_added_exactly : GivesIn (changed 30 [] (declares 1 (codes "k") 1 ∷ adds Back 0 (k 1) ∷ []) []) (assertz (k 1)) (0 ∷ 1 ∷ 2 ∷ []) (closed [] ∷ []) 1 Exhausted
+unfolding unifier keys could_match error_tree fault_tree plain calling_builtin accessing is_reserved control of_terms of_texts of_numbers of_clauses clause_words need used
+row_added_exactly = gives_in 60 (changed 30 [] (declares 1 (codes "k") 1 ∷ adds Back 0 (k 1) ∷ []) []) (assertz (k 1)) (0 ∷ 1 ∷ 2 ∷ []) (closed [] ∷ []) 1 Exhausted refl
+
+row_added_full : GivesIn (changed 29 [] (declares 1 (codes "k") 1 ∷ []) []) (assertz (k 1)) (0 ∷ 1 ∷ 1 ∷ []) [] 1 (Ball (fault_tree (Resource (codes "database")) assertz_one))
+unfolding unifier keys could_match error_tree fault_tree plain calling_builtin accessing is_reserved control of_terms of_texts of_numbers of_clauses clause_words need used
+row_added_full = gives_in 60 (changed 29 [] (declares 1 (codes "k") 1 ∷ []) []) (assertz (k 1)) (0 ∷ 1 ∷ 1 ∷ []) [] 1 (Ball (fault_tree (Resource (codes "database")) assertz_one)) refl
+
+row_declared_full : GivesIn (changed 16 [] [] []) (assertz (k 1)) (0 ∷ 0 ∷ []) [] 1 (Ball (fault_tree (Resource (codes "database")) assertz_one))
+unfolding unifier keys could_match error_tree fault_tree plain calling_builtin accessing is_reserved control of_terms of_texts of_numbers of_clauses clause_words need used
+row_declared_full = gives_in 60 (changed 16 [] [] []) (assertz (k 1)) (0 ∷ 0 ∷ []) [] 1 (Ball (fault_tree (Resource (codes "database")) assertz_one)) refl
+
+row_added_beside : GivesIn (changed 1000 [] (declares 2 (codes "k") 1 ∷ adds Back 0 (k 1) ∷ []) []) (assertz (k 1)) (0 ∷ 1 ∷ 2 ∷ []) (closed [] ∷ []) 1 Exhausted
+unfolding unifier keys could_match error_tree fault_tree plain calling_builtin accessing is_reserved control of_terms of_texts of_numbers of_clauses clause_words need used
+row_added_beside = gives_in 60 (changed 1000 [] (declares 2 (codes "k") 1 ∷ adds Back 0 (k 1) ∷ []) []) (assertz (k 1)) (0 ∷ 1 ∷ 2 ∷ []) (closed [] ∷ []) 1 Exhausted refl
+
+row_added_static : Refuses a_static (assertz (atom (codes "foo"))) (2 ∷ []) (static (codes "foo") 0) assertz_one
+unfolding unifier keys could_match error_tree fault_tree plain calling_builtin accessing is_reserved control of_terms of_texts of_numbers of_clauses clause_words need used
+row_added_static = gives_in 60 (changed 1000 a_static [] []) (assertz (atom (codes "foo"))) (2 ∷ []) [] 1 (Ball (fault_tree (static (codes "foo") 0) assertz_one)) refl
+
+row_added_reserved : Refuses [] (asserta truth) [] (static (codes "true") 0) asserta_one
+unfolding unifier keys could_match error_tree fault_tree plain calling_builtin accessing is_reserved control of_terms of_texts of_numbers of_clauses clause_words need used
+row_added_reserved = gives_in 60 (changed 1000 [] [] []) (asserta truth) [] [] 1 (Ball (fault_tree (static (codes "true") 0) asserta_one)) refl
+
+row_added_no_body : Refuses a_static (assertz (two (codes ":-") (atom (codes "foo")) (number 4))) [] (OfType (codes "callable") (number 4)) assertz_one
+unfolding unifier keys could_match error_tree fault_tree plain calling_builtin accessing is_reserved control of_terms of_texts of_numbers of_clauses clause_words need used
+row_added_no_body = gives_in 60 (changed 1000 a_static [] []) (assertz (two (codes ":-") (atom (codes "foo")) (number 4))) [] [] 1 (Ball (fault_tree (OfType (codes "callable") (number 4)) assertz_one)) refl
+
+row_added_unbound : Refuses [] (assertz x) [] Instantiation assertz_one
+unfolding unifier keys could_match error_tree fault_tree plain calling_builtin accessing is_reserved control of_terms of_texts of_numbers of_clauses clause_words need used
+row_added_unbound = gives_in 60 (changed 1000 [] [] []) (assertz x) [] [] 1 (Ball (fault_tree Instantiation assertz_one)) refl
+
+row_added_called : GivesIn (changed 1000 [] (declares 1 (codes "k") 1 ∷ adds Back 0 (k 1) ∷ []) (x ∷ [])) (both (assertz (k 1)) (one (codes "k") x)) (0 ∷ 1 ∷ 2 ∷ 2 ∷ []) (is_one ∷ []) 2 Exhausted
+unfolding unifier keys could_match error_tree fault_tree plain calling_builtin accessing is_reserved control of_terms of_texts of_numbers of_clauses clause_words need used
+row_added_called = gives_in 60 (changed 1000 [] (declares 1 (codes "k") 1 ∷ adds Back 0 (k 1) ∷ []) (x ∷ [])) (both (assertz (k 1)) (one (codes "k") x)) (0 ∷ 1 ∷ 2 ∷ 2 ∷ []) (is_one ∷ []) 2 Exhausted refl
+
+row_added_meanwhile : GivesIn (changed 1000 a_dynamic (adds Back 0 (k 2) ∷ []) []) (both (one (codes "k") x) (both (assertz (k 2)) failure)) (2 ∷ 2 ∷ 3 ∷ []) [] 3 Exhausted
+unfolding unifier keys could_match error_tree fault_tree plain calling_builtin accessing is_reserved control of_terms of_texts of_numbers of_clauses clause_words need used
+row_added_meanwhile = gives_in 60 (changed 1000 a_dynamic (adds Back 0 (k 2) ∷ []) []) (both (one (codes "k") x) (both (assertz (k 2)) failure)) (2 ∷ 2 ∷ 3 ∷ []) [] 3 Exhausted refl
+
+row_added_first : GivesIn (changed 1000 a_dynamic (adds Front 0 (k 2) ∷ []) (x ∷ [])) (both (asserta (k 2)) (one (codes "k") x)) (2 ∷ 3 ∷ 3 ∷ []) (opened (number 2 ∷ []) ∷ is_one ∷ []) 3 Exhausted
+unfolding unifier keys could_match error_tree fault_tree plain calling_builtin accessing is_reserved control of_terms of_texts of_numbers of_clauses clause_words need used
+row_added_first = gives_in 60 (changed 1000 a_dynamic (adds Front 0 (k 2) ∷ []) (x ∷ [])) (both (asserta (k 2)) (one (codes "k") x)) (2 ∷ 3 ∷ 3 ∷ []) (opened (number 2 ∷ []) ∷ is_one ∷ []) 3 Exhausted refl
+
 pub has_rows : HasRows
 has_rows = record {
   true_goal = row_true_goal;
@@ -643,4 +704,16 @@ has_rows = record {
   found_no_list = row_found_no_list;
   found_integer = row_found_integer;
   found_unbound = row_found_unbound;
+  added = row_added;
+  added_exactly = row_added_exactly;
+  added_full = row_added_full;
+  declared_full = row_declared_full;
+  added_beside = row_added_beside;
+  added_static = row_added_static;
+  added_reserved = row_added_reserved;
+  added_no_body = row_added_no_body;
+  added_unbound = row_added_unbound;
+  added_called = row_added_called;
+  added_meanwhile = row_added_meanwhile;
+  added_first = row_added_first;
 }

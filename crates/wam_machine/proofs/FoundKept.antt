@@ -1,5 +1,5 @@
 -- The mark of a `findall` keeps one more copy: what the terms say of that, and what the definition does.
-use Rattle.std.proofs.Common.{◌≡◌, ℕ, zero, suc, ◌+◌, ◌<◌, ◌≤◌, List, [], ◌∷◌, ◌++◌, length, get_or, refl, sym, ap, ap₂, ◌∙◌, arith, subst, Option, Some, None, append_assoc}
+use Rattle.std.proofs.Common.{◌≡◌, ℕ, zero, suc, ◌+◌, ◌<◌, ◌≤◌, List, [], ◌∷◌, ◌++◌, length, get_or, refl, sym, ap, ◌∙◌, arith, subst, Option, append_assoc}
 use Rattle.std.specs.Prelude.{map, reverse, ◌≢◌}
 use Rattle.std.specs.Global.{Vec}
 use Rattle.std.specs.List.{cons_option}
@@ -10,11 +10,11 @@ use Rattle.term_store.specs.Shape.{Shape}
 use Rattle.term_store.specs.declared.cell.Cell.{Cell}
 use Rattle.term_store.specs.Terms.{term_of}
 use Rattle.term_store.specs.Later.{back}
-use Rattle.journal_base.specs.Calls.{Goal}
-use Rattle.journal_base.specs.Journal.{Journal}
+use Rattle.journal_base.specs.Goals.{Goal}
+use Rattle.journals.specs.Journal.{Journal}
 use Rattle.wam_machine.specs.Machine as spec
 use Rattle.wam_machine.specs.Machine.{with_found, found_at, newest}
-use Rattle.wam_machine.specs.Terms.{Left, Turn, OfCall, OfRight, OfRepeat, OfNot, OfCatch, OfFindall, Saved, Said, said, saved_of, turn_of, turn_with, found_from, found_in, call_in, calls_in, IsKeptTurn, IsChoice, AreChoices, AreTerms}
+use Rattle.wam_machine.specs.Terms.{Left, Turn, OfCall, OfRight, OfRepeat, OfNot, OfCatch, OfFindall, Saved, Said, said, saved_of, turn_of, turn_with, found_from, found_in, call_in, calls_in, IsKeptTurn, AreChoices, AreTerms}
 use Rattle.wam_machine.specs.View.{alternative_of, choice_of, stack_of}
 use Rattle.wam_machine.specs.declared.terms.Alternative.{Alternative}
 use Rattle.wam_machine.specs.declared.terms.Alternative.TheVariants as is

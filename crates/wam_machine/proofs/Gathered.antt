@@ -3,7 +3,7 @@ use Rattle.std.proofs.Common.{◌≡◌, ℕ, zero, suc, ◌+◌, ◌-◌, ◌<�
 use Rattle.std.specs.Prelude.{map, All, codes}
 use Rattle.std.proofs.lemmas.List.{map-append}
 use Rattle.std.proofs.lemmas.List.Elements.{All-nil, All-cons, All-head, All-tail, All-append}
-use Rattle.prolog_terms.specs.Tree.{Tree, atom, compound, more, none}
+use Rattle.prolog_terms.specs.Tree.{Tree, atom}
 use Rattle.prolog_terms.specs.Substitutions.{substituted, numbered, renamed, beyond}
 use Rattle.prolog_terms.specs.Faults.{two}
 use Rattle.term_store.specs.declared.cell.Cell.{Cell}
@@ -11,8 +11,8 @@ use Rattle.term_builtins.specs.Meanings.{list_tree}
 use Rattle.term_unifier.specs.Unifier.{unifier}
 use Rattle.wam_machine.specs.Machine as spec
 use Rattle.wam_machine.specs.Machine.{Setting, State, Outcome, Goes, Going, fails, solving, gathered, found_at, new_copies, behind_copies, next_under, move}
-use Rattle.wam_machine.specs.Terms.{Saved, Said, OfFindall, AreTerms, IsBuilt, IsGrown, KeepsCells, IsSolved, said, built, calls_in, found_in}
-use Rattle.wam_machine.specs.View.{Acts, stack_of, state_from, state_with, state_of, mode_of}
+use Rattle.wam_machine.specs.Terms.{Said, OfFindall, AreTerms, IsBuilt, IsGrown, KeepsCells, IsSolved, said, built, calls_in, found_in}
+use Rattle.wam_machine.specs.View.{Acts, stack_of, state_from, state_with, mode_of}
 use Rattle.wam_machine.specs.declared.state.Machine.{Machine}
 use Rattle.wam_machine.specs.declared.state.Mode.{Mode}
 use Rattle.wam_machine.specs.declared.state.Mode.TheVariants.{Going as IsGoing, Failing as IsFailing}

@@ -4,10 +4,11 @@ use Rattle.std.specs.Prelude.{IsTrue, if◌then◌else◌, ◌&&◌, nat_lt, nat
 use Rattle.std.specs.Cmp.Lexicographic.{pointwise, same_text}
 use Rattle.std.proofs.lemmas.Cmp.{nat_list_eq_equiv}
 use Rattle.std.proofs.lemmas.Bool.Decides.{nat_tests}
-use Rattle.std.proofs.lemmas.List.Elements.{All-nil, All-cons, All-tail}
+use Rattle.std.proofs.lemmas.List.Elements.{All-nil, All-cons, All-head, All-tail}
 use Rattle.prolog_terms.specs.Tree.{Tree, atom, compound, none, more, count}
 use Rattle.prolog_terms.specs.Clauses.{is_named, is_body}
 use Rattle.prolog_terms.specs.Faults.{two}
+use Rattle.prolog_terms.specs.declared.entry.End.TheVariants.{Front, Back}
 use Rattle.term_store.specs.declared.cell.Cell.{Cell}
 use Rattle.term_store.specs.declared.cell.View.{View}
 use Rattle.term_store.specs.declared.cell.View.TheVariants as view
@@ -18,8 +19,9 @@ use Rattle.wam_machine.specs.Goals.{IsFound, IsFoundNow, IsControl, IsPlain, Are
 use Rattle.wam_machine.specs.Control as spec
 use Rattle.term_builtins.specs.Table.{Row, builtins, place_in, place_when, is_row}
 use Rattle.wam_machine.specs.Control.{control_of, control_of_either, plain, builtin_or_user}
+use Rattle.wam_machine.specs.declared.control.Access.TheVariants.{Assert}
 use Rattle.wam_machine.specs.declared.control.Control.{Control}
-use Rattle.wam_machine.specs.declared.control.Control.TheVariants.{True, Fail, Cut, Repeat, Both, Either, IfElse, If, Not, Call, Once, Catch, Findall, Throw, Halt, HaltWith, Builtin, User}
+use Rattle.wam_machine.specs.declared.control.Control.TheVariants.{True, Fail, Cut, Repeat, Both, Either, IfElse, If, Not, Call, Once, Catch, Findall, Throw, Halt, HaltWith, Database, Builtin, User}
 use Rattle.wam_machine.specs.declared.terms.Terms.{Terms}
 use Rattle.wam_machine.proofs.SeenCells.{count_trees, text_read}
 use Rattle.wam_machine.proofs.SpineParts.{two-cells, two-trees}
@@ -54,15 +56,35 @@ atom-plain a p q r s h c f = record {
 
 -- ---- one argument
 
+third : (c1 c2 c3 : spec.Control) (p q : Bool) → p ≡ false → q ≡ false → (if p then c1 else if q then c2 else c3) ≡ c3
+third c1 c2 c3 p q a b = rw (a, b) refl
+
 pub one-plain : (f : List ℕ) (only : Cell) → is_named (codes "call") f ≡ false → is_named (codes "once") f ≡ false → is_named (codes "\\+") f ≡ false → is_named (codes "throw") f ≡ false
-    → is_named (codes "halt") f ≡ false → (c : Control) → IsPlain f (only ∷ []) c → IsFound (only ∷ []) (λ tree. compound f (more (tree only) none)) c
-one-plain f only p q r s h c g = record {
+    → is_named (codes "halt") f ≡ false → is_named (codes "asserta") f ≡ false → is_named (codes "assertz") f ≡ false
+    → (c : Control) → IsPlain f (only ∷ []) c → IsFound (only ∷ []) (λ tree. compound f (more (tree only) none)) c
+one-plain f only p q r s h v w c g = record {
   is = λ tree.
       ap (λ (d : spec.Control). Some d)
-      (sixth (spec.Call (tree only) none) (spec.Once (tree only)) (spec.Not (tree only)) (spec.Throw (tree only)) (spec.HaltWith (tree only)) (plain f (more (tree only) none))
-      (is_named (codes "call") f) (is_named (codes "once") f) (is_named (codes "\\+") f) (is_named (codes "throw") f) (is_named (codes "halt") f) p q r s h ∙ g.is tree);
+      (sixth (spec.Call (tree only) none) (spec.Once (tree only)) (spec.Not (tree only)) (spec.Throw (tree only)) (spec.HaltWith (tree only))
+      (if is_named (codes "asserta") f then spec.Database (spec.Assert Front (tree only))
+      else if is_named (codes "assertz") f then spec.Database (spec.Assert Back (tree only)) else plain f (more (tree only) none))
+      (is_named (codes "call") f) (is_named (codes "once") f) (is_named (codes "\\+") f) (is_named (codes "throw") f) (is_named (codes "halt") f) p q r s h
+      ∙ third (spec.Database (spec.Assert Front (tree only))) (spec.Database (spec.Assert Back (tree only))) (plain f (more (tree only) none))
+      (is_named (codes "asserta") f) (is_named (codes "assertz") f) v w
+      ∙ g.is tree);
   among = λ n sh k. g.among n sh k;
 }
+
+-- what adds a clause
+pub front-added : (f : List ℕ) (only : Cell) → f ≡ codes "asserta" → IsFound (only ∷ []) (λ tree. compound f (more (tree only) none)) (Database (Assert Front only))
+front-added f only e =
+    subst (λ (n : List ℕ). IsFound (only ∷ []) (λ tree. compound n (more (tree only) none)) (Database (Assert Front only))) (sym e)
+    (record { is = λ tree. refl; among = λ n s k. All-head (HasTerm n s) only [] k })
+
+pub back-added : (f : List ℕ) (only : Cell) → f ≡ codes "assertz" → IsFound (only ∷ []) (λ tree. compound f (more (tree only) none)) (Database (Assert Back only))
+back-added f only e =
+    subst (λ (n : List ℕ). IsFound (only ∷ []) (λ tree. compound n (more (tree only) none)) (Database (Assert Back only))) (sym e)
+    (record { is = λ tree. refl; among = λ n s k. All-head (HasTerm n s) only [] k })
 
 -- ---- two and three arguments
 
@@ -280,6 +302,7 @@ module _ {C : Type 0} (t : Terms C) where
   found-goals (Throw b) h k = tt
   found-goals Halt h k = tt
   found-goals (HaltWith n) h k = tt
+  found-goals (Database a) h k = tt
   found-goals (Builtin row args) h k = tt
   found-goals (User i) h k = tt
 

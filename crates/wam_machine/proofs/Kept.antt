@@ -3,7 +3,7 @@ use Rattle.std.proofs.Common.{◌≡◌, ℕ, ◌+◌, ◌<◌, ◌≤◌, List,
 use Rattle.std.specs.Prelude.{◌==◌, if◌then◌else◌, All}
 use Rattle.std.proofs.Math.Path.{fun_ext}
 use Rattle.std.proofs.lemmas.List.Elements.{All-nil, All-cons, All-head, All-tail, All-push}
-use Rattle.journal_base.specs.Calls.{Goal}
+use Rattle.journal_base.specs.Goals.{Goal}
 use Rattle.journal_base.specs.View.{Out, none_out, opened}
 use Rattle.wam_machine.specs.Cursors.{goal_of}
 use Rattle.wam_machine.specs.View.{all_out, AreKept}

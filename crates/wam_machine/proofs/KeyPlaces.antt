@@ -4,11 +4,11 @@ use Rattle.std.specs.Prelude.{option_map, IfSome}
 use Rattle.std.proofs.lemmas.List.{take_all}
 use Rattle.std.proofs.lemmas.Option.{unwrap_or-slice_get}
 use Rattle.prolog_terms.specs.Tree.{Tree, atom, compound}
-use Rattle.journal_base.specs.Keys.{key, argument, arguments, keys, atom_key, functor_key}
-use Rattle.journal_base.specs.Calls.{AreKeysOf, text_of, goal_keys}
-use Rattle.journal_base.specs.Filling.{IsKeyAt, Filled}
-use Rattle.journal_base.specs.declared.key.Key as Call
-use Rattle.journal_base.proofs.Filled.{one_more, numbered, all_keys}
+use Rattle.call_patterns.specs.Keys.{key, argument, arguments, keys, atom_key, functor_key}
+use Rattle.call_patterns.specs.Calls.{AreKeysOf, text_of, goal_keys}
+use Rattle.call_patterns.specs.Filling.{IsKeyAt, Filled}
+use Rattle.call_patterns.specs.declared.key.Key as Call
+use Rattle.call_patterns.proofs.Filled.{one_more, numbered, all_keys}
 use Rattle.term_store.specs.declared.cell.Cell.{Cell}
 use Rattle.term_store.specs.declared.cell.View.TheVariants.{Atom, Compound}
 use Rattle.term_store.specs.Shape.{Shape}

@@ -7,16 +7,17 @@ use Rattle.prolog_terms.specs.Tree.{Tree, Trees, variable, integer, atom, compou
 use Rattle.prolog_terms.specs.declared.fault.Fault.TheVariants.{Representation}
 use Rattle.prolog_terms.specs.declared.entry.Clause.{Clause}
 use Rattle.prolog_terms.specs.declared.entry.Indicator.{Indicator}
-use Rattle.journal_base.specs.Journal.{Journal, number_of}
-use Rattle.journal_base.specs.Keys.{keys}
+use Rattle.journals.specs.Journal.{Journal, number_of}
+use Rattle.call_patterns.specs.Keys.{keys}
 use Rattle.prolog_terms.specs.Substitutions.{renamed, beyond}
 use Rattle.term_unifier.specs.Unifier.{unifier}
 use Rattle.prolog_terms.specs.Clauses.{body_of}
 use Rattle.term_builtins.specs.Meanings.{Meaning, Holds, Equates, Writes, Puts, Raises, list_tree}
-use Rattle.wam_machine.specs.Control.{Control, True, Fail, Cut, Repeat, Both, Either, IfElse, If, Not, Call, Once, Catch, Findall, Throw, Halt, HaltWith, Builtin, User, control_of, with_added}
+use Rattle.wam_machine.specs.Control.{Control, True, Fail, Cut, Repeat, Both, Either, IfElse, If, Not, Call, Once, Catch, Findall, Throw, Halt, HaltWith, Database, Builtin, User, control_of, with_added}
 use Rattle.wam_machine.specs.declared.run.RunEnd.{RunEnd}
 use Rattle.wam_machine.specs.declared.run.RunEnd.TheVariants.{Exhausted, Ball, Spent, Halted}
-use Rattle.wam_machine.specs.Machine.{Next, Do, ConditionEnd, NotEnd, CatchEnd, FindallEnd, Alternative, Clauses, Right, Again, NotMark, CatchMark, FindallMark, Choice, Mode, Going, Failing, Raising, State, Setting, Report, Outcome, Goes, Ends, Unfit, no_more, made_all, over, stepping, onwards, height, solving, equating, numbering, body_from, entering, leaving, trying, candidate_clauses, looked, called, calling, call_with, running, calling_added, denying, catching, gathering, gathered, new_copies, behind_copies, throwing, halting, cut_back, leaving_catch, active_catch, recovering, reaching, reached, caught, repeating, performing, doing, goal_move, going, back_to, taken, failing, raising, raises, move, Runs, ends, goes, coming_to, calling_builtin}
+use Rattle.wam_machine.specs.Machine.{Next, Do, ConditionEnd, NotEnd, CatchEnd, FindallEnd, Alternative, Clauses, Right, Again, NotMark, CatchMark, FindallMark, Choice, Mode, Going, Failing, Raising, State, Setting, Report, Outcome, Goes, Ends, Unfit, no_more, over, stepping, onwards, height, solving, equating, numbering, body_from, entering, leaving, trying, candidate_clauses, looked, called, calling, call_with, running, calling_added, denying, catching, gathering, gathered, new_copies, behind_copies, throwing, halting, cut_back, leaving_catch, active_catch, recovering, reaching, reached, caught, repeating, performing, doing, goal_move, going, back_to, taken, failing, raising, raises, move, Runs, ends, goes, coming_to, calling_builtin, accessing}
+use Rattle.wam_machine.proofs.Accessed.{GoesBeside, accessing-beside}
 
 -- ---- one transcript
 
@@ -53,9 +54,9 @@ kept_within budget n (Ends r) le k = rw k le
 kept_within budget n Unfit le k = tt
 
 pub over-keeps : (x : Setting) (s : State) (end : RunEnd) → Keeps s.steps (over x s end)
-over-keeps x s end = go (no_more s.fronts && made_all x)
+over-keeps x s end = go (no_more s.fronts)
   where
-    go : (b : Bool) → Keeps s.steps (if b then Ends (record { events = s.events; looks = s.looks; tried = s.tried; steps = s.steps; end = end }) else Unfit)
+    go : (b : Bool) → Keeps s.steps (if b then Ends (record { events = s.events; deeds = s.deeds; tried = s.tried; steps = s.steps; end = end }) else Unfit)
     go true = refl
     go false = tt
 
@@ -151,6 +152,11 @@ stepping-within x s then_ le k = go (eqb_tells s.steps x.budget)
         let more : suc s.steps ≤ x.budget = omega (arith, other) in
         rw (e, stepping) (kept_within x.budget (suc s.steps) (then_ (record s { steps = suc s.steps })) more (k (record s { steps = suc s.steps })))
 
+beside-keeps : (s : State) (o : Outcome) → GoesBeside s o → Keeps s.steps o
+beside-keeps s (Goes t) h = h.steps
+beside-keeps s (Ends r) h = absurd h
+beside-keeps s Unfit h = tt
+
 pub performing-keeps : (x : Setting) (goal : Tree) (cut : ℕ) (c : Control) (s : State) → Keeps s.steps (performing x goal cut c s)
 performing-keeps x goal cut True s = refl
 performing-keeps x goal cut Fail s = refl
@@ -168,6 +174,7 @@ performing-keeps x goal cut (Findall t g l) s = gathering-keeps t g l s (body_of
 performing-keeps x goal cut (Throw b) s = throwing-keeps b s
 performing-keeps x goal cut Halt s = over-keeps x s (Halted (pos 0))
 performing-keeps x goal cut (HaltWith n) s = halting-keeps x n s
+performing-keeps x goal cut (Database a) s = beside-keeps s (accessing x a s) (accessing-beside x a s)
 performing-keeps x goal cut (Builtin row args) s = builtin-keeps x.ops row args s
 performing-keeps x goal cut (User i) s = calling-keeps x s goal i
 
@@ -191,6 +198,7 @@ doing-within x goal cut s (Findall t g l) le = performed-within x goal cut s (Fi
 doing-within x goal cut s (Throw b) le = performed-within x goal cut s (Throw b) le
 doing-within x goal cut s Halt le = performed-within x goal cut s Halt le
 doing-within x goal cut s (HaltWith n) le = performed-within x goal cut s (HaltWith n) le
+doing-within x goal cut s (Database a) le = performed-within x goal cut s (Database a) le
 doing-within x goal cut s (Builtin row args) le = performed-within x goal cut s (Builtin row args) le
 doing-within x goal cut s (User i) le = performed-within x goal cut s (User i) le
 

@@ -1,16 +1,18 @@
 -- From the first move to the end.
-use Rattle.std.proofs.Common.{◌≡◌, ℕ, ◌+◌, List, [], ◌∷◌, ◌++◌, length, take, refl, sym, ap, ◌∙◌, arith, subst, append-nil, append_assoc, length-append}
-use Rattle.std.specs.Prelude.{IsTrue}
+use Rattle.std.proofs.Common.{◌≡◌, ℕ, ◌+◌, List, [], ◌∷◌, ◌++◌, length, take, drop, refl, sym, ap, ap₂, ◌∙◌, arith, subst, append-nil, append_assoc, length-append}
 use Rattle.std.specs.List.{sum_by, AllZip}
+use Rattle.std.proofs.lemmas.List.Elements.{filter_map-append}
 use Rattle.std.proofs.lemmas.List.Sums.{sum_by-append}
 use Rattle.prolog_terms.specs.Tree.{Tree}
 use Rattle.prolog_terms.specs.declared.shown.Shown.{Shown}
-use Rattle.journal_base.specs.Calls.{Goal}
-use Rattle.journal_base.specs.Journal.{Journal}
+use Rattle.journal_base.specs.Goals.{Goal}
+use Rattle.journals.specs.Journal.{Journal}
 use Rattle.journal_base.specs.Looks.{allowance, scans_of, kept_of, wants_of}
 use Rattle.journal_base.specs.declared.cause.How.{How}
 use Rattle.journal_base.specs.declared.tally.Tally.{Tally}
-use Rattle.wam_machine.specs.Machine.{Look, Setting, Runs, ends, goes, move, beginning, made_all}
+use Rattle.prolog_terms.specs.declared.entry.Entry.{Entry}
+use Rattle.journal_base.specs.View.{entries_by}
+use Rattle.wam_machine.specs.Machine.{Look, Deed, Setting, Runs, ends, goes, move, beginning, looks_in, made_in, look_in, entry_in}
 use Rattle.wam_machine.specs.Runs.{IsFairLook, allowances, report_of, IsTranscribed}
 use Rattle.wam_machine.specs.View.{setting, state_of, Works, GoesOn, ComesToEnd, IsLed, IsBeginning, no_tally, run_of, calls}
 use Rattle.wam_machine.specs.declared.run.Goal.{Goal as Started}
@@ -21,7 +23,7 @@ use Rattle.wam_machine.specs.declared.state.Machine.{Machine}
 
 -- the setting is the same while the shown term is
 pub one_setting : {C : Type 0} (h : Host) (m n : Machine C) (j : Journal) → (said n.terms).shown ≡ (said m.terms).shown → setting h n j ≡ setting h m j
-one_setting h m n j e = ap (λ (t : Tree). let x : Setting = record { engine = h.engine; journal = j; start = h.start; budget = h.budget; shown = t; ops = h.ops.now } in x) e
+one_setting h m n j e = ap (λ (t : Tree). let x : Setting = record { engine = h.engine; journal = j; words = h.sizes.words; updates = h.sizes.updates; start = h.start; budget = h.budget; shown = t; ops = h.ops.now } in x) e
 
 -- ---- lists that go on
 
@@ -58,23 +60,27 @@ module _ {C : Type 0} (rest : C → Goal → Journal → List ℕ) (may : C → 
     unbuilt = λ plain. ((s.unbuilt plain).0 ∙ (f.unbuilt plain).0, (s.unbuilt plain).1 ∙ (f.unbuilt plain).1);
   }
 
-  pub leads_on : (x : Setting) (goal : Tree) (m new : Machine C) → IsLed rest may at ahead causes x goal m → GoesOn rest may at ahead causes (move x) x.journal m new → IsLed rest may at ahead causes x goal new
-  leads_on x goal m new l c = record {
-    looks = l.looks ++ c.looked;
+  pub leads_on : (made more : List Entry) (x : Setting) (goal : Tree) (m new : Machine C) → IsLed rest may at ahead causes made x goal m → GoesOn rest may at ahead causes more (move x) x.journal m new
+      → IsLed rest may at ahead causes (made ++ more) x goal new
+  leads_on made more x goal m new l c = record {
+    deeds = l.deeds ++ c.deeds;
     hows = l.hows ++ c.hows;
     tried = l.tried + c.given;
+    made_is = filter_map-append entry_in l.deeds c.deeds ∙ ap₂ (λ (es fs : List Entry). es ++ fs) l.made_is c.made_is;
     leads = λ fs r h.
         subst (λ taken. Runs x (beginning x goal taken) r)
         (sym (append_assoc m.fronts.items c.added fs) ∙ ap (λ taken. taken ++ fs) (sym c.fronts_are))
-        (l.leads (c.added ++ fs) r (goes (c.goes l.looks l.tried fs) h));
-    works = works-on x.journal no_tally m.tally new.tally [] (calls m) (calls new) l.looks c.looked l.hows c.hows l.tried c.given l.works c.works;
+        (l.leads (c.added ++ fs) r (goes (c.goes l.deeds l.tried fs) h));
+    works = subst (λ (ls : List Look). Works may at ahead causes x.journal no_tally new.tally [] (calls new) ls (l.hows ++ c.hows) (l.tried + c.given)) (sym (filter_map-append look_in l.deeds c.deeds))
+        (works-on x.journal no_tally m.tally new.tally [] (calls m) (calls new) (looks_in l.deeds) (looks_in c.deeds) l.hows c.hows l.tried c.given l.works c.works);
   }
 
-  pub led_at_first : (x : Setting) (goal : Started) (m : Machine C) → IsBeginning goal x.start m → IsLed rest may at ahead causes x goal.term m
+  pub led_at_first : (x : Setting) (goal : Started) (m : Machine C) → IsBeginning goal x.start m → IsLed rest may at ahead causes [] x goal.term m
   led_at_first x goal m b = record {
-    looks = [];
+    deeds = [];
     hows = [];
     tried = 0;
+    made_is = refl;
     leads = λ fs r h. subst (λ s. Runs x s r) (same fs) h;
     works = subst (λ t. Works may at ahead causes x.journal no_tally t [] (calls m) [] [] 0) (sym b.tally)
         (subst (λ cs. Works may at ahead causes x.journal no_tally no_tally [] cs [] [] 0) (sym (ap (λ (t : Said C). calls_in t.stack) b.said_is)) none);
@@ -86,18 +92,21 @@ module _ {C : Type 0} (rest : C → Goal → Journal → List ℕ) (may : C → 
       none : Works may at ahead causes x.journal no_tally no_tally [] [] [] [] 0
       none = record { fair = tt; looks = omega arith; scans = omega arith; kept = omega arith; wants = omega arith; most = omega arith; least = omega arith; unbuilt = λ _. (refl, refl) }
 
-  pub leads_to_end : (x : Setting) (goal : Tree) (shown : List Shown) (m new : Machine C) (end : RunEnd) → IsTrue (made_all x) → IsLed rest may at ahead causes x goal m → ComesToEnd rest at (move x) x m new end
-      → IsTranscribed x causes goal (run_of x.engine shown new end)
-  leads_to_end x goal shown m new end made l c = record {
-    looks = l.looks;
+  pub leads_to_end : (made more : List Entry) (x : Setting) (goal : Tree) (shown : List Shown) (m new : Machine C) (end : RunEnd) → entries_by x.engine (drop x.start x.journal) ≡ made ++ more
+      → IsLed rest may at ahead causes made x goal m → ComesToEnd rest at more (move x) x m new end → IsTranscribed x causes goal (run_of x.engine shown new end)
+  leads_to_end made more x goal shown m new end all l c = record {
+    deeds = l.deeds;
     tried = l.tried;
-    transcript =
-        subst (λ taken. Runs x (beginning x goal taken) (report_of (run_of x.engine shown new end) l.looks l.tried))
-        (append-nil m.fronts.items ∙ sym c.fronts_are)
-        (l.leads [] (report_of (run_of x.engine shown new end) l.looks l.tried) (ends (c.ends made l.looks l.tried)));
+    transcript = record {
+      runs =
+          subst (λ taken. Runs x (beginning x goal taken) (report_of (run_of x.engine shown new end) l.deeds l.tried))
+          (append-nil m.fronts.items ∙ sym c.fronts_are)
+          (l.leads [] (report_of (run_of x.engine shown new end) l.deeds l.tried) (ends (c.ends l.deeds l.tried)));
+      own = all ∙ ap (λ (es : List Entry). made ++ es) c.made_is ∙ append-nil made ∙ sym l.made_is;
+    };
     hows = l.hows;
     fair = l.works.fair;
-    counted = ap (λ (t : Tally). t.looks) c.tally_is ∙ l.works.looks ∙ none (length l.looks);
+    counted = ap (λ (t : Tally). t.looks) c.tally_is ∙ l.works.looks ∙ none (length (looks_in l.deeds));
     scanned = ap (λ (t : Tally). t.scans) c.tally_is ∙ l.works.scans ∙ none (sum_by scans_of l.hows);
     kept = ap (λ (t : Tally). t.kept) c.tally_is ∙ l.works.kept ∙ none (sum_by kept_of l.hows);
     wanted = ap (λ (t : Tally). t.wants) c.tally_is ∙ l.works.wants ∙ none (sum_by wants_of l.hows);

@@ -4,7 +4,7 @@ use Rattle.std.specs.Prelude.{All, IfSome, Some, slice_get}
 use Rattle.std.proofs.lemmas.List.Elements.{All-nil, All-cons}
 use Rattle.prolog_terms.specs.declared.entry.What.{What}
 use Rattle.prolog_terms.specs.declared.entry.What.TheVariants.{Declare, Add, Erase}
-use Rattle.journal_base.specs.Journal.{Journal, added}
+use Rattle.journals.specs.Journal.{Journal, added}
 use Rattle.journal_base.specs.Legal.{MayFollow}
 use Rattle.wam_machine.specs.Machine.{HasBody, LegalHasBodies}
 

@@ -1,3 +1,5 @@
+pub mod Accessed
+pub mod Growing
 pub mod Laws
 pub mod Settles
 pub mod WellMade
@@ -6,6 +8,11 @@ pub mod Walked
 pub mod Exists
 pub mod Legal
 pub mod Begins
+pub mod Fronted
+pub mod Asked
+pub mod Adding
+pub mod AskedMoves
+pub mod IndicatorTerms
 pub mod Named
 pub mod Parts
 pub mod Chains
@@ -59,8 +66,10 @@ pub mod Examples
 pub mod FoundAt
 pub mod FoundKept
 pub mod Marks
+pub mod FindallMarks
 pub mod BallTerms
 pub mod BallMoves
 pub mod Gathered
 pub mod CalledRows
 pub mod ActedRows
+pub mod OthersAreCalled

@@ -5,9 +5,9 @@ use Rattle.std.proofs.lemmas.Bool.Decides.{nat_tests}
 use Rattle.std.specs.List.{sum_by}
 use Rattle.std.proofs.lemmas.List.Sums.{sum_by_push}
 use Rattle.prolog_terms.specs.declared.entry.Indicator.{Indicator}
-use Rattle.journal_base.specs.Calls.{Goal}
-use Rattle.journal_base.specs.Journal.{Journal, number_of}
-use Rattle.journal_base.specs.Keys.{keys}
+use Rattle.journal_base.specs.Goals.{Goal}
+use Rattle.journals.specs.Journal.{Journal, number_of}
+use Rattle.call_patterns.specs.Keys.{keys}
 use Rattle.journal_base.specs.Looks.{TellsOnly, cause_number, CountsLook, most_raised, scans_of, kept_of, wants_of}
 use Rattle.journal_base.specs.declared.cause.How.{How}
 use Rattle.journal_base.specs.declared.cause.How.TheVariants.{Indexed, Scanned}
@@ -18,7 +18,7 @@ use Rattle.prolog_terms.specs.Tree.{Tree}
 use Rattle.prolog_terms.specs.Faults.{fault_tree}
 use Rattle.prolog_terms.specs.declared.fault.Fault.TheVariants.{Existence}
 use Rattle.wam_machine.specs.Machine as spec
-use Rattle.wam_machine.specs.Machine.{Goes, Next, Raising, Setting, Look, called, calling, trying, candidate_clauses, call_of}
+use Rattle.wam_machine.specs.Machine.{Goes, Next, Raising, Setting, Look, Deed, Looked, called, calling, trying, candidate_clauses, call_of}
 use Rattle.wam_machine.specs.Cursors.{IsOpened, goal_of, clauses_left, visits_left}
 use Rattle.wam_machine.specs.View.{stack_of, mode_of, state_from, state_with, state_of, calls, all_visits, aheads, GoesOn, IsHeldIn, Tries, KeepsCounts}
 use Rattle.wam_machine.specs.Terms.{Left, Said, said, calls_in}
@@ -57,7 +57,7 @@ only_plain (Scanned c) h = plain_cause c (no_cause c h.1)
 at_most : (m n : ℕ) → m ≤ n → nat_le m n ≡ true
 at_most m n h = grind (arith, nat_tests)
 
-module _ (x : Setting) (goals : List Next) (stack : List spec.Choice) (bindings : ℕ → Tree) (fresh : ℕ) (steps : ℕ) (events : List Event) (front : ℕ) (looks : List Look) (tried : ℕ) (m : spec.Mode) (goal : Tree) (i : Indicator) where
+module _ (x : Setting) (goals : List Next) (stack : List spec.Choice) (bindings : ℕ → Tree) (fresh : ℕ) (steps : ℕ) (events : List Event) (front : ℕ) (looks : List Deed) (tried : ℕ) (m : spec.Mode) (goal : Tree) (i : Indicator) where
   called_at : (f : ℕ) (fs : List ℕ) → front ≤ f → f ≤ length x.journal →
       calling x (state_from goals stack bindings fresh m steps events front looks tried (f ∷ fs)) goal i
       ≡ called goal i front (take f x.journal) (state_from goals stack bindings fresh m steps events f looks tried fs) (number_of (take f x.journal) i)
@@ -72,7 +72,7 @@ module _ (x : Setting) (goals : List Next) (stack : List spec.Choice) (bindings 
   call_found : (p f : ℕ) (fs : List ℕ) → front ≤ f → f ≤ length x.journal → number_of (take f x.journal) i ≡ Some p →
       calling x (state_from goals stack bindings fresh m steps events front looks tried (f ∷ fs)) goal i
       ≡ trying goal (candidate_clauses (take f x.journal) p (keys goal))
-      (state_from goals stack bindings fresh m steps events f (looks ++ record { before = front; front = f; call = call_of p goal } ∷ []) tried fs)
+      (state_from goals stack bindings fresh m steps events f (looks ++ Looked (record { before = front; front = f; call = call_of p goal }) ∷ []) tried fs)
   call_found p f fs low high some = called_at f fs low high ∙ rw some refl
 
 -- ---- as the engine does it
@@ -83,7 +83,7 @@ module _ {C : Type 0} (rest : C → Goal → Journal → List ℕ) (may : C → 
       → mid.mode ≡ m.mode → said mid.terms ≡ said m.terms → mid.steps ≡ m.steps → mid.events.items ≡ m.events.items → mid.fronts.items ≡ m.fronts.items ++ mid.front ∷ []
       → IsOpened rest may at causes m.front x.journal c how m.tally mid.tally → CountsLook m.tally mid.tally how → m.tally.visits + ahead c.cursor ≤ mid.tally.visits
       → Tries rest may at ahead x.journal c mid new → KeepsCounts mid new → IsHeldIn rest may at x.journal m.tally (calls m)
-      → GoesOn rest may at ahead causes (λ s. calling x s c.goal i) x.journal m new
+      → GoesOn rest may at ahead causes [] (λ s. calling x s c.goal i) x.journal m new
   looked x m mid new c how i is low high named mode terms steps events fronts opened counted first tries counts held =
       let j : Journal = x.journal in
       let t : Said C = said m.terms in
@@ -97,15 +97,16 @@ module _ {C : Type 0} (rest : C → Goal → Journal → List ℕ) (may : C → 
       ap (λ cs. aheads ahead (cs ++ c ∷ [])) stack ∙ sum_by_push (λ (d : Left C). ahead d.cursor) (calls m) c in
       record {
         added = f ∷ [];
-        looked = look ∷ [];
+        deeds = Looked look ∷ [];
         hows = how ∷ [];
         given = tries.given;
+        made_is = refl;
         fronts_are = counts.fronts ∙ fronts ∙ ap (λ n. m.fronts.items ++ n ∷ []) is;
         goes = λ ls tried fs.
             call_found x t.goals (stack_of rest at j t.stack) t.bindings t.fresh m.steps m.events.items m.front ls tried (mode_of m.mode) c.goal i c.procedure f fs low high named
-            ∙ ap (λ cs. trying c.goal cs (state_with rest at j t (mode_of m.mode) m.steps m.events.items f (ls ++ look ∷ []) tried fs)) (sym opened.clauses)
-            ∙ ap (trying c.goal (clauses_left rest at j c)) (again (ls ++ look ∷ []) tried fs)
-            ∙ tries.tried (ls ++ look ∷ []) tried fs;
+            ∙ ap (λ cs. trying c.goal cs (state_with rest at j t (mode_of m.mode) m.steps m.events.items f (ls ++ Looked look ∷ []) tried fs)) (sym opened.clauses)
+            ∙ ap (trying c.goal (clauses_left rest at j c)) (again (ls ++ Looked look ∷ []) tried fs)
+            ∙ tries.tried (ls ++ Looked look ∷ []) tried fs;
         works = record {
           fair = (opened.fair, tt);
           looks = looks;
@@ -124,6 +125,6 @@ module _ {C : Type 0} (rest : C → Goal → Journal → List ℕ) (may : C → 
         };
       }
     where
-      again : (ls : List Look) (tried : ℕ) (fs : List ℕ)
+      again : (ls : List Deed) (tried : ℕ) (fs : List ℕ)
           → state_with rest at x.journal (said m.terms) (mode_of m.mode) m.steps m.events.items (at c.cursor) ls tried fs ≡ state_of rest at x.journal mid ls tried fs
       again ls tried fs = rw (mode, terms, steps, events, is) refl

@@ -9,15 +9,16 @@ use Rattle.prolog_terms.specs.Substitutions.{renamed, numbered, beyond}
 use Rattle.prolog_terms.specs.declared.entry.Clause.{Clause}
 use Rattle.prolog_terms.specs.declared.entry.Indicator.{Indicator}
 use Rattle.prolog_terms.specs.declared.fault.Fault.TheVariants.{Representation}
-use Rattle.journal_base.specs.Journal.{Journal, number_of}
-use Rattle.journal_base.specs.Keys.{keys}
+use Rattle.journals.specs.Journal.{Journal, number_of}
+use Rattle.call_patterns.specs.Keys.{keys}
 use Rattle.term_unifier.specs.Unifier.{unifier}
 use Rattle.term_builtins.specs.Meanings.{Meaning, Holds as Held, Equates, Writes, Puts, Raises, list_tree}
-use Rattle.wam_machine.specs.Control.{Control, True, Fail, Cut, Repeat, Both, Either, IfElse, If, Not, Call, Once, Catch, Findall, Throw, Halt, HaltWith, Builtin, User, control_of, with_added, is_true_atom}
+use Rattle.wam_machine.specs.Control.{Control, True, Fail, Cut, Repeat, Both, Either, IfElse, If, Not, Call, Once, Catch, Findall, Throw, Halt, HaltWith, Database, Builtin, User, control_of, with_added, is_true_atom}
 use Rattle.wam_machine.proofs.FoundAt.{found-mark, found-length, found-cut}
 use Rattle.wam_machine.specs.declared.run.RunEnd.{RunEnd}
 use Rattle.wam_machine.specs.declared.run.RunEnd.TheVariants.{Exhausted, Ball, Spent, Halted}
-use Rattle.wam_machine.specs.Machine.{Next, Do, ConditionEnd, NotEnd, CatchEnd, FindallEnd, Alternative, Clauses, Right, Again, NotMark, CatchMark, FindallMark, Choice, Mode, Going, Failing, Raising, State, Setting, Outcome, Goes, Ends, Unfit, no_more, made_all, over, stepping, onwards, pushed, height, cut_to, cut_back, next_under, solving, numbering, body_from, entering, leaving, trying, candidate_clauses, looked, called, calling, call_with, raises, running, calling_added, denying, catching, gathering, gathered, new_copies, behind_copies, with_found, found_at, throwing, halting, repeating, performing, doing, goal_move, going, back_to, taken, failing, active_catch, recovering, reaching, reached, caught, raising, move, beginning, Reaches, here, further, is_mark, HasMark, CatchesHaveMarks, coming_to, calling_builtin}
+use Rattle.wam_machine.specs.Machine.{Next, Do, ConditionEnd, NotEnd, CatchEnd, FindallEnd, Alternative, Clauses, Right, Again, NotMark, CatchMark, FindallMark, Choice, Mode, Going, Failing, Raising, State, Setting, Outcome, Goes, Ends, Unfit, no_more, over, stepping, onwards, pushed, height, cut_to, cut_back, next_under, solving, numbering, body_from, entering, leaving, trying, candidate_clauses, looked, called, calling, call_with, raises, running, calling_added, denying, catching, gathering, gathered, new_copies, behind_copies, with_found, found_at, throwing, halting, repeating, performing, doing, goal_move, going, back_to, taken, failing, active_catch, recovering, reaching, reached, caught, raising, move, beginning, Reaches, here, further, is_mark, HasMark, CatchesHaveMarks, coming_to, calling_builtin, accessing}
+use Rattle.wam_machine.proofs.Accessed.{GoesBeside, accessing-beside}
 
 -- ---- what holds of a state
 
@@ -198,9 +199,9 @@ active-low (CatchEnd k ∷ rest) h e = same k h e
 -- ---- what a move keeps
 
 over-kept : (x : Setting) (s : State) (e : RunEnd) → Kept (over x s e)
-over-kept x s e = go (no_more s.fronts && made_all x)
+over-kept x s e = go (no_more s.fronts)
   where
-    go : (b : Bool) → Kept (if b then Ends (record { events = s.events; looks = s.looks; tried = s.tried; steps = s.steps; end = e }) else Unfit)
+    go : (b : Bool) → Kept (if b then Ends (record { events = s.events; deeds = s.deeds; tried = s.tried; steps = s.steps; end = e }) else Unfit)
     go true = tt
     go false = tt
 
@@ -333,6 +334,11 @@ halting-kept x (integer z) s h = over-kept x s (Halted z)
 halting-kept x (atom a) s h = record { nested = h.nested; stacked = h.stacked }
 halting-kept x (compound f ts) s h = record { nested = h.nested; stacked = h.stacked }
 
+beside-kept : (s : State) (o : Outcome) → Holds s → GoesBeside s o → Kept o
+beside-kept s (Goes t) h b = record { nested = rw (b.stack, b.goals) h.nested; stacked = rw b.stack h.stacked }
+beside-kept s (Ends r) h b = absurd b
+beside-kept s Unfit h b = tt
+
 performing-kept : (x : Setting) (goal : Tree) (cut : ℕ) (c : Control) (s : State) → low s.goals ≤ cut → Holds s → Kept (performing x goal cut c s)
 performing-kept x goal cut True s l h = h
 performing-kept x goal cut Fail s l h = record { nested = h.nested; stacked = h.stacked }
@@ -355,6 +361,7 @@ performing-kept x goal cut (Findall t g r) s l h = gathering-kept t g r s (body_
 performing-kept x goal cut (Throw b) s l h = throwing-kept b s h
 performing-kept x goal cut Halt s l h = over-kept x s (Halted (pos 0))
 performing-kept x goal cut (HaltWith n) s l h = halting-kept x n s h
+performing-kept x goal cut (Database a) s l h = beside-kept s (accessing x a s) h (accessing-beside x a s)
 performing-kept x goal cut (Builtin row args) s l h = builtin-kept x.ops row args s h
 performing-kept x goal cut (User i) s l h = calling-kept x s goal i h
 
@@ -385,6 +392,7 @@ doing-kept x goal cut s (Findall t g r) l h = performed-kept x goal cut s (Finda
 doing-kept x goal cut s (Throw b) l h = performed-kept x goal cut s (Throw b) l h
 doing-kept x goal cut s Halt l h = performed-kept x goal cut s Halt l h
 doing-kept x goal cut s (HaltWith n) l h = performed-kept x goal cut s (HaltWith n) l h
+doing-kept x goal cut s (Database a) l h = performed-kept x goal cut s (Database a) l h
 doing-kept x goal cut s (Builtin row args) l h = performed-kept x goal cut s (Builtin row args) l h
 doing-kept x goal cut s (User i) l h = performed-kept x goal cut s (User i) l h
 

@@ -1,18 +1,18 @@
 -- The machine's moves at the engine's states.
 use Rattle.std.proofs.Common.{◌≡◌, ℕ, suc, ◌+◌, ◌≤◌, List, [], ◌∷◌, ◌++◌, Bool, true, false, length, take, refl, ◌∙◌, ap, arith, inl, inr, Some, None}
-use Rattle.std.specs.Prelude.{◌==◌, ◌≢◌, ◌⊎◌, ◌||◌, nat_le, IsTrue}
+use Rattle.std.specs.Prelude.{◌==◌, ◌≢◌, ◌⊎◌, ◌||◌, nat_le}
 use Rattle.std.specs.List.{list_any}
 use Rattle.std.proofs.lemmas.Bool.Decides.{eqb_tells, nat_tests}
 use Rattle.prolog_terms.specs.Tree.{Tree}
 use Rattle.prolog_terms.specs.Faults.{fault_tree}
 use Rattle.prolog_terms.specs.declared.entry.Indicator.{Indicator}
 use Rattle.prolog_terms.specs.declared.fault.Fault.TheVariants.{Existence}
-use Rattle.journal_base.specs.Calls.{Goal}
-use Rattle.journal_base.specs.Journal.{Journal, number_of}
-use Rattle.journal_base.specs.Keys.{keys}
-use Rattle.wam_machine.specs.Control.{Control, True, Fail, Cut, Repeat, Both, Either, IfElse, If, Not, Call, Once, Catch, Findall, Throw, Halt, HaltWith, Builtin, User, control_of}
+use Rattle.journal_base.specs.Goals.{Goal}
+use Rattle.journals.specs.Journal.{Journal, number_of}
+use Rattle.call_patterns.specs.Keys.{keys}
+use Rattle.wam_machine.specs.Control.{Control, True, Fail, Cut, Repeat, Both, Either, IfElse, If, Not, Call, Once, Catch, Findall, Throw, Halt, HaltWith, Database, Builtin, User, control_of}
 use Rattle.wam_machine.specs.Machine as spec
-use Rattle.wam_machine.specs.Machine.{Next, Do, Alternative, Clauses, Right, Again, NotMark, CatchMark, FindallMark, State, Setting, Outcome, Goes, Ends, Look, Report, Going, Failing, Raising, move, trying, calling, called, candidate_clauses, call_of, goal_move, doing, performing, stepping, taken, back_to, is_alternative, made_all, over, newest}
+use Rattle.wam_machine.specs.Machine.{Next, Do, Alternative, Clauses, Right, Again, NotMark, CatchMark, FindallMark, State, Setting, Outcome, Goes, Ends, Deed, Report, Going, Failing, Raising, move, trying, calling, called, candidate_clauses, call_of, goal_move, doing, performing, stepping, taken, back_to, is_alternative, Looked, over, newest}
 use Rattle.wam_machine.specs.Terms.{Turn, OfCall, OfRight, OfRepeat, OfNot, OfCatch, OfFindall, Saved, is_open, is_any_open}
 use Rattle.wam_machine.specs.View.{alternative_of, choice_of, state_from, stack_of, resuming}
 use Rattle.wam_machine.specs.declared.run.Event.{Event}
@@ -68,9 +68,6 @@ agree m n h = go (eqb_tells m n)
     go (inl (d, e)) = d
     go (inr (d, e)) = absurd (e h)
 
-pub is_true : (b : Bool) → IsTrue b → b ≡ true
-is_true b h = h
-
 at_most : (m n : ℕ) → m ≤ n → nat_le m n ≡ true
 at_most m n h = grind (arith, nat_tests)
 
@@ -94,6 +91,7 @@ TakesStep (Findall t g l) = Unit {0}
 TakesStep (Throw b) = Unit {0}
 TakesStep Halt = Unit {0}
 TakesStep (HaltWith n) = Unit {0}
+TakesStep (Database a) = Unit {0}
 TakesStep (Builtin row args) = Unit {0}
 TakesStep (User i) = Unit {0}
 
@@ -114,6 +112,7 @@ doing-steps x goal cut s (Findall t g l) h = refl
 doing-steps x goal cut s (Throw b) h = refl
 doing-steps x goal cut s Halt h = refl
 doing-steps x goal cut s (HaltWith n) h = refl
+doing-steps x goal cut s (Database a) h = refl
 doing-steps x goal cut s (Builtin row args) h = refl
 doing-steps x goal cut s (User i) h = refl
 
@@ -132,14 +131,14 @@ stepping-on x s f d =
 
 -- ---- ends
 
-abbrev pub report : List Event → List Look → ℕ → ℕ → RunEnd → Report
-report events looks tried steps end = record { events = events; looks = looks; tried = tried; steps = steps; end = end }
+abbrev pub report : List Event → List Deed → ℕ → ℕ → RunEnd → Report
+report events deeds tried steps end = record { events = events; deeds = deeds; tried = tried; steps = steps; end = end }
 
-pub over-ended : (x : Setting) (s : State) (end : RunEnd) → IsTrue (made_all x) → s.fronts ≡ [] → over x s end ≡ Ends (report s.events s.looks s.tried s.steps end)
-over-ended x s end made none = rw (none, is_true (made_all x) made) refl
+pub over-ended : (x : Setting) (s : State) (end : RunEnd) → s.fronts ≡ [] → over x s end ≡ Ends (report s.events s.deeds s.tried s.steps end)
+over-ended x s end none = rw none refl
 
-pub stepping-spent : (x : Setting) (s : State) (f : State → Outcome) → IsTrue (made_all x) → s.fronts ≡ [] → s.steps ≡ x.budget → stepping x s f ≡ Ends (report s.events s.looks s.tried s.steps (Spent s.steps))
-stepping-spent x s f made none d = rw (agree s.steps x.budget d) (over-ended x s (Spent s.steps) made none)
+pub stepping-spent : (x : Setting) (s : State) (f : State → Outcome) → s.fronts ≡ [] → s.steps ≡ x.budget → stepping x s f ≡ Ends (report s.events s.deeds s.tried s.steps (Spent s.steps))
+stepping-spent x s f none d = rw (agree s.steps x.budget d) (over-ended x s (Spent s.steps) none)
 
 -- ---- a goal
 
@@ -147,35 +146,35 @@ module _ (x : Setting) (goal : Tree) (cut : ℕ) (s : State) (c : Control) (is :
   pub goal_steps : TakesStep c → s.steps ≢ x.budget → goal_move x goal cut s (control_of goal) ≡ performing x goal cut c (record s { steps = s.steps + 1 })
   goal_steps takes d = ap (goal_move x goal cut s) is ∙ doing-steps x goal cut s c takes ∙ stepping-on x s (performing x goal cut c) d
 
-  pub goal_spent : TakesStep c → IsTrue (made_all x) → s.fronts ≡ [] → s.steps ≡ x.budget → goal_move x goal cut s (control_of goal) ≡ Ends (report s.events s.looks s.tried s.steps (Spent s.steps))
-  goal_spent takes made none d = ap (goal_move x goal cut s) is ∙ doing-steps x goal cut s c takes ∙ stepping-spent x s (performing x goal cut c) made none d
+  pub goal_spent : TakesStep c → s.fronts ≡ [] → s.steps ≡ x.budget → goal_move x goal cut s (control_of goal) ≡ Ends (report s.events s.deeds s.tried s.steps (Spent s.steps))
+  goal_spent takes none d = ap (goal_move x goal cut s) is ∙ doing-steps x goal cut s c takes ∙ stepping-spent x s (performing x goal cut c) none d
 
 pub goal_both : (x : Setting) (goal a b : Tree) (cut : ℕ) (s : State) → control_of goal ≡ Some (Both a b) → goal_move x goal cut s (control_of goal) ≡ Goes (record s { goals = Do a cut ∷ Do b cut ∷ s.goals })
 goal_both x goal a b cut s is = ap (goal_move x goal cut s) is
 
 -- ---- a call
 
-module _ (x : Setting) (goals : List Next) (stack : List spec.Choice) (bindings : ℕ → Tree) (fresh : ℕ) (steps : ℕ) (events : List Event) (front : ℕ) (looks : List Look) (tried : ℕ) where
+module _ (x : Setting) (goals : List Next) (stack : List spec.Choice) (bindings : ℕ → Tree) (fresh : ℕ) (steps : ℕ) (events : List Event) (front : ℕ) (deeds : List Deed) (tried : ℕ) where
   called_at : (m : spec.Mode) (goal : Tree) (i : Indicator) (f : ℕ) (fs : List ℕ) → front ≤ f → f ≤ length x.journal →
-      calling x (state_from goals stack bindings fresh m steps events front looks tried (f ∷ fs)) goal i
-      ≡ called goal i front (take f x.journal) (state_from goals stack bindings fresh m steps events f looks tried fs) (number_of (take f x.journal) i)
+      calling x (state_from goals stack bindings fresh m steps events front deeds tried (f ∷ fs)) goal i
+      ≡ called goal i front (take f x.journal) (state_from goals stack bindings fresh m steps events f deeds tried fs) (number_of (take f x.journal) i)
   called_at m goal i f fs low high = rw (at_most front f low, at_most f (length x.journal) high) refl
 
   pub call_missing : (m : spec.Mode) (goal ball : Tree) (i : Indicator) (f : ℕ) (fs : List ℕ) → front ≤ f → f ≤ length x.journal → number_of (take f x.journal) i ≡ None → ball ≡ fault_tree (Existence i) i →
-      calling x (state_from goals stack bindings fresh m steps events front looks tried (f ∷ fs)) goal i ≡ Goes (state_from goals stack bindings fresh (Raising ball) steps events f looks tried fs)
+      calling x (state_from goals stack bindings fresh m steps events front deeds tried (f ∷ fs)) goal i ≡ Goes (state_from goals stack bindings fresh (Raising ball) steps events f deeds tried fs)
   call_missing m goal ball i f fs low high absent is = called_at m goal i f fs low high ∙ rw (absent, is) refl
 
   pub call_found : (m : spec.Mode) (goal : Tree) (i : Indicator) (p f : ℕ) (fs : List ℕ) → front ≤ f → f ≤ length x.journal → number_of (take f x.journal) i ≡ Some p →
-      calling x (state_from goals stack bindings fresh m steps events front looks tried (f ∷ fs)) goal i
+      calling x (state_from goals stack bindings fresh m steps events front deeds tried (f ∷ fs)) goal i
       ≡ trying goal (candidate_clauses (take f x.journal) p (keys goal))
-      (state_from goals stack bindings fresh m steps events f (looks ++ record { before = front; front = f; call = call_of p goal } ∷ []) tried fs)
+      (state_from goals stack bindings fresh m steps events f (deeds ++ Looked (record { before = front; front = f; call = call_of p goal }) ∷ []) tried fs)
   call_found m goal i p f fs low high some = called_at m goal i f fs low high ∙ rw some refl
 
 -- ---- after a failure
 
 module _ (x : Setting) (s : State) where
-  pub exhausted : IsTrue (made_all x) → s.mode ≡ Failing → s.stack ≡ [] → s.fronts ≡ [] → move x s ≡ Ends (report s.events s.looks s.tried s.steps Exhausted)
-  exhausted made mode none fronts = rw (mode, none) (over-ended x s Exhausted made fronts)
+  pub exhausted : s.mode ≡ Failing → s.stack ≡ [] → s.fronts ≡ [] → move x s ≡ Ends (report s.events s.deeds s.tried s.steps Exhausted)
+  exhausted mode none fronts = rw (mode, none) (over-ended x s Exhausted fronts)
 
   pub fails_back : (c : spec.Choice) (below : List spec.Choice) → s.mode ≡ Failing → s.stack ≡ c ∷ below → move x s ≡ taken x (back_to s c below) c.what
   fails_back c below mode stack = rw (mode, stack) refl

@@ -15,12 +15,12 @@ use Rattle.prolog_terms.specs.declared.entry.Indicator.{Indicator}
 use Rattle.prolog_terms.specs.declared.entry.Kind.{Kind}
 use Rattle.prolog_terms.specs.declared.entry.What.{What}
 use Rattle.prolog_terms.specs.declared.entry.What.TheVariants.{Declare, Add, Erase}
-use Rattle.journal_base.specs.Keys.{GoalKeys}
-use Rattle.journal_base.specs.Journal.{Journal, procedures, numbered_from, number_of, same_indicator, clause_named, added, alive}
-use Rattle.journal_base.specs.Candidates.{candidates, head_agrees}
+use Rattle.call_patterns.specs.Keys.{GoalKeys}
+use Rattle.journals.specs.Journal.{Journal, procedures, numbered_from, number_of, same_indicator, clause_named, added, alive}
+use Rattle.call_patterns.specs.Candidates.{candidates, head_agrees}
 use Rattle.journal_base.specs.Legal.{Legal, MayFollow}
 use Rattle.journal_base.specs.View.{View, IsSound, InSeen}
-use Rattle.journal_base.proofs.Entries.{number_of-kept}
+use Rattle.journals.proofs.Entries.{number_of-kept}
 
 -- ---- clauses
 

@@ -3,10 +3,10 @@ use Rattle.std.proofs.Common.{◌≡◌, ℕ, ◌≤◌, List, take, sym, ap, �
 use Rattle.std.specs.Prelude.{IsSome, filter_map}
 use Rattle.std.proofs.lemmas.List.{take-take}
 use Rattle.std.proofs.lemmas.List.Elements.{All-same}
-use Rattle.journal_base.specs.Keys.{GoalKeys, keys}
-use Rattle.journal_base.specs.Journal.{Journal, clause_named}
-use Rattle.journal_base.specs.Calls.{Goal}
-use Rattle.journal_base.specs.Candidates.{candidates}
+use Rattle.call_patterns.specs.Keys.{GoalKeys, keys}
+use Rattle.journals.specs.Journal.{Journal, clause_named}
+use Rattle.journal_base.specs.Goals.{Goal}
+use Rattle.call_patterns.specs.Candidates.{candidates}
 use Rattle.wam_machine.specs.Machine.{candidate_clauses}
 use Rattle.wam_machine.specs.Cursors.{goal_of, part, names_left, clauses_left, visits_left, AreNamed}
 use Rattle.wam_machine.specs.Terms.{Left}

@@ -3,8 +3,8 @@ use Rattle.std.proofs.Common.{◌≡◌, ℕ, zero, suc, ◌<◌, List, [], ◌�
 use Rattle.std.specs.Prelude.{slice_get, option_map}
 use Rattle.prolog_terms.specs.declared.entry.Indicator.{Indicator}
 use Rattle.prolog_terms.specs.declared.entry.Kind.{Kind}
-use Rattle.journal_base.specs.Calls.{Goal}
-use Rattle.journal_base.specs.Journal.{Journal, number_of, procedure_named, procedures}
+use Rattle.journal_base.specs.Goals.{Goal}
+use Rattle.journals.specs.Journal.{Journal, number_of, procedure_named, procedures}
 use Rattle.std.proofs.lemmas.List.Elements.{All-nil}
 use Rattle.journal_base.specs.View.{View, IsSound, Looks, Out, none_out}
 use Rattle.wam_machine.specs.Cursors.{goal_of, AreNamed}
@@ -12,7 +12,7 @@ use Rattle.wam_machine.specs.Terms.{Said, calls_in}
 use Rattle.wam_machine.specs.View.{IsReady, IsBeginning, AreKept, calls}
 use Rattle.wam_machine.specs.declared.run.Goal.{Goal as Started}
 use Rattle.wam_machine.specs.declared.state.Machine.{Machine}
-use Rattle.wam_machine.proofs.Begins.{begins_before}
+use Rattle.wam_machine.proofs.Begins.{begins_before, below_on, below_seen}
 use Rattle.wam_machine.proofs.Kept.{kept_on}
 use Rattle.wam_machine.proofs.Named.{procedure_within}
 
@@ -27,6 +27,7 @@ ready_on v w serves serves_after group out after rest may at budget m r l others
     within = r.held.within;
     few = r.held.few;
     reached = omega (arith, r.held.reached, l.grows.front);
+    below = below_on v w m.front l r.held.below;
     looks = r.held.looks;
     scans = r.held.scans;
     kept = r.held.kept;
@@ -98,6 +99,7 @@ ready_at_first v serves group out rest may at budget start goal m sound b is non
         within = omega arith;
         few = omega arith;
         reached = omega (arith, is);
+        below = below_seen v start sound is;
         looks = omega arith;
         scans = omega arith;
         kept = omega arith;

@@ -4,12 +4,13 @@ use Rattle.std.specs.Prelude.{◌≢◌, All}
 use Rattle.std.specs.List.{cons_option}
 use Rattle.std.proofs.lemmas.List.{length-append}
 use Rattle.prolog_terms.specs.Tree.{Tree}
-use Rattle.journal_base.specs.Calls.{Goal}
-use Rattle.journal_base.specs.Journal.{Journal}
+use Rattle.journal_base.specs.Goals.{Goal}
+use Rattle.journals.specs.Journal.{Journal}
 use Rattle.journal_base.specs.Looks.{most_raised}
+use Rattle.journal_base.specs.View.{View, Looks}
 use Rattle.journal_base.specs.declared.tally.Tally.{Tally}
 use Rattle.wam_machine.specs.Machine as spec
-use Rattle.wam_machine.specs.Machine.{Next, State, Setting, Outcome, Goes, Ends, Look, move, back_to}
+use Rattle.wam_machine.specs.Machine.{Next, State, Setting, Outcome, Goes, Ends, Deed, move, back_to}
 use Rattle.wam_machine.specs.Cursors.{AreNamed}
 use Rattle.wam_machine.specs.Terms.{Left, Turn, OfCall, OfRight, OfRepeat, OfNot, OfCatch, OfFindall, Saved, Said, AreTerms, HasNewest, HasCatch, said, call_in, calls_in, is_open, is_catch}
 use Rattle.wam_machine.specs.View.{alternative_of, choice_of, stack_of, mode_of, state_from, state_of, resuming, calls, turn_calls, all_visits, aheads, Acts, GoesOn, ComesToEnd, IsHeld, IsHeldIn, Tries, Resumes, KeepsCounts}
@@ -19,6 +20,7 @@ use Rattle.wam_machine.specs.declared.state.Mode.{Mode}
 use Rattle.wam_machine.specs.declared.state.Mode.TheVariants.{Going as IsGoing, Failing as IsFailing}
 use Rattle.wam_machine.specs.declared.terms.Terms.{Terms}
 use Rattle.wam_machine.proofs.Acted.{stack-push, calls-push, calls-beside}
+use Rattle.wam_machine.proofs.Begins.{below_on}
 use Rattle.wam_machine.proofs.Moves.{open-is, taken-steps, stepping-on, stepping-spent, fails_back}
 
 -- ---- the calls of a turn
@@ -67,7 +69,7 @@ abbrev pub moment : {C : Type 0} → Turn C → Said C → Saved C
 moment turn t = record { turn = turn; goals = t.goals; bindings = t.bindings }
 
 module _ {C : Type 0} (x : Setting) (m : Machine C) (failing : m.mode ≡ IsFailing) where
-  module _ (rest : C → Goal → Journal → List ℕ) (at : C → ℕ) (j : Journal) (looks : List Look) (tried : ℕ) (fronts : List ℕ) where
+  module _ (rest : C → Goal → Journal → List ℕ) (at : C → ℕ) (j : Journal) (looks : List Deed) (tried : ℕ) (fronts : List ℕ) where
     pub came_back : (ss : List (Saved C)) (s : Saved C) → (said m.terms).stack ≡ ss ++ s ∷ []
         → move x (state_of rest at j m looks tried fronts) ≡ spec.taken x (back_to (state_of rest at j m looks tried fronts) (choice_of rest at j s) (stack_of rest at j ss)) (alternative_of rest at j s.turn)
     came_back ss s is =
@@ -101,21 +103,22 @@ module _ {C : Type 0} (x : Setting) (m : Machine C) (failing : m.mode ≡ IsFail
   }
 
   -- no step is left
-  pub retake_spent : (rest : C → Goal → Journal → List ℕ) (at : C → ℕ) → HasNewest (said m.terms).stack true → m.steps ≡ x.budget → ComesToEnd rest at (move x) x m m (Spent m.steps)
+  pub retake_spent : (rest : C → Goal → Journal → List ℕ) (at : C → ℕ) → HasNewest (said m.terms).stack true → m.steps ≡ x.budget → ComesToEnd rest at [] (move x) x m m (Spent m.steps)
   retake_spent rest at (ss, (s, (is, left))) d = record {
+    made_is = refl;
     fronts_are = refl;
     tally_is = refl;
-    ends = λ made looks tried.
+    ends = λ looks tried.
         let back = back_to (state_of rest at x.journal m looks tried []) (choice_of rest at x.journal s) (stack_of rest at x.journal ss) in
         let a = alternative_of rest at x.journal s.turn in
         came_back rest at x.journal looks tried [] ss s is
         ∙ taken-steps x back a (open-is rest at x.journal s.turn ∙ left)
-        ∙ stepping-spent x back (resuming a) made refl d;
+        ∙ stepping-spent x back (resuming a) refl d;
   }
 
   -- an alternative is taken, by a step
   module _ (t : Terms C) (turn : Turn C) (is : (said m.terms).stack ≡ (said t).stack ++ moment turn (said t) ∷ []) (fresh : (said t).fresh ≡ (said m.terms).fresh) (left : is_open turn ≡ true) (d : m.steps ≢ x.budget) where
-    retake_leads : (rest : C → Goal → Journal → List ℕ) (at : C → ℕ) (j : Journal) (looks : List Look) (tried : ℕ) (fronts : List ℕ)
+    retake_leads : (rest : C → Goal → Journal → List ℕ) (at : C → ℕ) (j : Journal) (looks : List Deed) (tried : ℕ) (fronts : List ℕ)
         → move x (state_of rest at j m looks tried fronts) ≡ resuming (alternative_of rest at j turn) (state_of rest at j (record m { mode = IsGoing; steps = m.steps + 1; terms = t }) looks tried fronts)
     retake_leads rest at j looks tried fronts =
         let back = back_to (state_of rest at j m looks tried fronts) (choice_of rest at j (moment turn (said t))) (stack_of rest at j (said t).stack) in
@@ -127,7 +130,7 @@ module _ {C : Type 0} (x : Setting) (m : Machine C) (failing : m.mode ≡ IsFail
 
     pub retaken : (rest : C → Goal → Journal → List ℕ) (may : C → Goal → Journal → ℕ) (at : C → ℕ) (ahead : C → ℕ) (causes : List ℕ) (j : Journal) (new : Machine C)
         → Resumes rest may at ahead j turn (record m { mode = IsGoing; steps = m.steps + 1; terms = t }) new → KeepsCounts (record m { mode = IsGoing; steps = m.steps + 1; terms = t }) new
-        → IsHeldIn rest may at j m.tally (calls m) → GoesOn rest may at ahead causes (move x) j m new
+        → IsHeldIn rest may at j m.tally (calls m) → GoesOn rest may at ahead causes [] (move x) j m new
     retaken rest may at ahead causes j new r counts held =
         let same : new.tally ≡ record m.tally { visits = new.tally.visits } = counts.tally in
         let looks : new.tally.looks ≡ m.tally.looks = ap (λ (u : Tally). u.looks) same in
@@ -136,9 +139,10 @@ module _ {C : Type 0} (x : Setting) (m : Machine C) (failing : m.mode ≡ IsFail
         let aheads_are : aheads ahead (calls m) ≡ aheads ahead (calls_in (said t).stack ++ turn_calls turn) = ap (aheads ahead) were in
         record {
           added = [];
-          looked = [];
+          deeds = [];
           hows = [];
           given = r.given;
+          made_is = refl;
           fronts_are = counts.fronts ∙ sym (append-nil m.fronts.items);
           goes = λ ls tried fs.
               retake_leads rest at j ls tried fs
@@ -165,13 +169,14 @@ module _ {C : Type 0} (x : Setting) (m : Machine C) (failing : m.mode ≡ IsFail
 
 -- ---- counts
 
-pub held_retaken : {C : Type 0} (budget before after : ℕ) (m n : Machine C) (v : ℕ) → n.steps ≡ m.steps + 1 → n.front ≡ m.front → n.tally ≡ record m.tally { visits = v } → length (calls n) ≤ length (calls m) → before ≤ after → m.steps ≢ budget
-    → IsHeld budget before m.steps m.front (length (calls m)) m.tally → IsHeld budget after n.steps n.front (length (calls n)) n.tally
-held_retaken budget before after m n v steps front tally few grows other h =
+pub held_retaken : {C : Type 0} (budget : ℕ) (v w : View) (m n : Machine C) (visits : ℕ) → n.steps ≡ m.steps + 1 → n.front ≡ m.front → n.tally ≡ record m.tally { visits = visits } → length (calls n) ≤ length (calls m) → Looks v w → m.steps ≢ budget
+    → IsHeld budget v m.steps m.front (length (calls m)) m.tally → IsHeld budget w n.steps n.front (length (calls n)) n.tally
+held_retaken budget v w m n visits steps front tally few seen other h =
     rw (steps, front, tally) (record {
       within = omega (arith, h.within, other);
       few = omega (arith, h.few, few);
-      reached = omega (arith, h.reached, grows);
+      reached = omega (arith, h.reached, seen.grows.front);
+      below = below_on v w m.front seen h.below;
       looks = omega (arith, h.looks);
       scans = h.scans;
       kept = h.kept;

@@ -1,10 +1,10 @@
 -- The counts have room.
-use Rattle.std.proofs.Common.{◌≡◌, ℕ, ◌+◌, ◌*◌, ◌^◌, ◌<◌, ◌≤◌, List, Bool, true, false, refl, arith}
+use Rattle.std.proofs.Common.{◌≡◌, ℕ, ◌+◌, ◌*◌, ◌^◌, ◌<◌, ◌≤◌, List, Bool, true, false, refl, sym, subst, arith}
 use Rattle.std.specs.Prelude.{nat_le}
 use Rattle.std.proofs.lemmas.Bool.Decides.{nat_tests}
 use Rattle.std.proofs.lemmas.Grind.{not_there}
-use Rattle.journal_base.specs.Calls.{Goal}
-use Rattle.journal_base.specs.Journal.{Journal}
+use Rattle.journal_base.specs.Goals.{Goal}
+use Rattle.journals.specs.Journal.{Journal}
 use Rattle.std.specs.Prelude.{Option, Some, None}
 use Rattle.journal_base.specs.Looks.{HasRoom, CountsLook, most_raised, scans_of, count_some, kept_of, want_of, want_kept, wants_of}
 use Rattle.journal_base.specs.declared.cause.How.{How}
@@ -14,7 +14,7 @@ use Rattle.journal_base.specs.declared.cause.Cause.TheVariants.{Plain, Few, Crow
 use Rattle.journal_base.specs.View.{View, IsSound, Looks, Out}
 use Rattle.journal_base.specs.declared.tally.Tally.{Tally}
 use Rattle.wam_machine.specs.Cursors.{Begins}
-use Rattle.wam_machine.specs.View.{IsReady, all_visits, calls}
+use Rattle.wam_machine.specs.View.{IsReady, IsHeld, IsFronted, all_visits, calls}
 use Rattle.wam_machine.specs.declared.state.Machine.{Machine}
 use Rattle.wam_machine.proofs.Begins.{begins_self}
 
@@ -101,3 +101,21 @@ module _ {C : Type 0} (v : View) (serves : C → Goal → Type 0) (group : C →
     where
       visits_held : (j : Journal) → Begins v j → m.tally.visits ≤ m.tally.looks * most_raised
       visits_held j b = less m.tally.visits (all_visits may at j (calls m)) (m.tally.looks * most_raised) (r.each j b).raised
+
+-- what is held, after one look more at a front that was taken just now, and some visits
+pub held_looked : (budget : ℕ) (v w : View) (steps before front few more : ℕ) (old mid new : Tally) (how : How) → IsHeld budget v steps before few old → old.looks < steps → CountsLook old mid how
+    → new ≡ record mid { visits = new.visits } → more ≤ few + 1 → IsFronted w front → IsHeld budget w steps front more new
+held_looked budget v w steps before front few more old mid new how h room counts same grown fronted =
+    subst (λ (t : Tally). IsHeld budget w steps front more t) (sym same)
+    (record {
+      within = h.within;
+      few = omega (arith, h.few, counts.looks, grown);
+      reached = fronted.reached;
+      below = fronted.below;
+      looks = omega (arith, counts.looks, room);
+      scans = omega (arith, counts.looks, counts.scans, one_scan how, h.scans);
+      kept = omega (arith, counts.looks, counts.kept, one_kept how, h.kept);
+      wants = omega (arith, counts.looks, counts.wants, one_want how, h.wants);
+      built = omega (arith, counts.looks, counts.built.1, h.built);
+      indexes = omega (arith, counts.looks, counts.indexes.1, h.indexes);
+    })

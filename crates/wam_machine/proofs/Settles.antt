@@ -9,27 +9,27 @@ use Rattle.std.proofs.lemmas.Bool.{ltb-true}
 use Rattle.term_unifier.specs.Unifier.{unifier}
 use Rattle.term_builtins.specs.Meanings.{list_tree}
 use Rattle.term_builtins.specs.Table.{builtins, place_in}
-use Rattle.wam_machine.specs.Control.{Control, True, Fail, Cut, Repeat, Both, Either, IfElse, If, Not, Call, Once, Catch, Findall, Throw, Halt, HaltWith, Builtin, User, control_of, control_with_none, control_with_one, control_of_either, control_with_two, control_with_three, control_with_more, plain, builtin_or_user}
+use Rattle.wam_machine.specs.Control.{Control, True, Fail, Cut, Repeat, Both, Either, IfElse, If, Not, Call, Once, Catch, Findall, Throw, Halt, HaltWith, Database, Builtin, User, control_of, control_with_none, control_with_one, control_of_either, control_with_two, control_with_three, control_with_more, plain, builtin_or_user}
 use Rattle.wam_machine.specs.declared.run.RunEnd.{RunEnd}
 use Rattle.wam_machine.specs.declared.run.RunEnd.TheVariants.{Exhausted, Ball, Spent}
-use Rattle.wam_machine.specs.Machine.{Next, Do, ConditionEnd, NotEnd, CatchEnd, FindallEnd, Alternative, Clauses, Right, Again, NotMark, CatchMark, FindallMark, Choice, Mode, Going, Failing, Raising, State, Setting, Report, Outcome, Goes, Ends, Unfit, no_more, made_all, over, stepping, onwards, height, cut_to, cut_back, bound_further, solving, gathered, new_copies, behind_copies, found_at, active_catch, recovering, reaching, reached, caught, trying, repeating, performing, doing, goal_move, answer, back_to, taken, move, Runs, ends, goes, beginning, Misfits, unfit, later, HasTranscript}
+use Rattle.wam_machine.specs.Machine.{Next, Do, ConditionEnd, NotEnd, CatchEnd, FindallEnd, Alternative, Clauses, Right, Again, NotMark, CatchMark, FindallMark, Choice, Mode, Going, Failing, Raising, State, Setting, Report, Outcome, Goes, Ends, Unfit, no_more, over, stepping, onwards, height, cut_to, cut_back, bound_further, solving, new_copies, behind_copies, found_at, active_catch, recovering, reaching, reached, caught, trying, repeating, performing, doing, goal_move, answer, back_to, taken, move, Runs, ends, goes, beginning, Misfits, unfit, later, HasTranscript}
 use Rattle.wam_machine.proofs.FoundAt.{found-length}
 use Rattle.wam_machine.proofs.Laws.{Keeps, Within, trying-keeps, performing-keeps, move-within}
 
 -- a step is taken, the run is over, or the move doesn't fit
-abbrev Stops : ℕ → Outcome → Type 0
+abbrev pub Stops : ℕ → Outcome → Type 0
 Stops n (Goes t) = t.steps ≡ suc n
 Stops n (Ends r) = Unit {0}
 Stops n Unfit = Unit {0}
 
-data Settles (x : Setting) : State → Type 0 where
+pub data Settles (x : Setting) : State → Type 0 where
   stops : {s : State} → Stops s.steps (move x s) → Settles x s
   moves : {s t : State} → move x s ≡ Goes t → t.steps ≡ s.steps → Settles x t → Settles x s
 
 over-stops : (x : Setting) (s : State) (e : RunEnd) (n : ℕ) → Stops n (over x s e)
-over-stops x s e n = go (no_more s.fronts && made_all x)
+over-stops x s e n = go (no_more s.fronts)
   where
-    go : (b : Bool) → Stops n (if b then Ends (record { events = s.events; looks = s.looks; tried = s.tried; steps = s.steps; end = e }) else Unfit)
+    go : (b : Bool) → Stops n (if b then Ends (record { events = s.events; deeds = s.deeds; tried = s.tried; steps = s.steps; end = e }) else Unfit)
     go true = tt
     go false = tt
 
@@ -117,7 +117,7 @@ light_one w f t =
     choose w (is_named (codes "once") f) _ _ (λ a b e. cc e) (
     choose w (is_named (codes "\\+") f) _ _ (λ a b e. cc e) (
     choose w (is_named (codes "throw") f) _ _ (λ a b e. cc e) (
-    choose w (is_named (codes "halt") f) _ _ (λ a b e. cc e) (light_plain w f (more t none))))))
+    choose w (is_named (codes "halt") f) _ _ (λ a b e. cc e) (choose w (is_named (codes "asserta") f) _ _ (λ a b e. cc e) (choose w (is_named (codes "assertz") f) _ _ (λ a b e. cc e) (light_plain w f (more t none))))))))
 
 light_two : (f : List ℕ) (t u : Tree) → Lighter (suc (weight t + (weight u + 0))) (control_with_two f t u)
 light_two f t u =
@@ -178,6 +178,7 @@ doing_good x goal cut s r (Findall t g l) e next = inl (performed x goal cut s r
 doing_good x goal cut s r (Throw b) e next = inl (performed x goal cut s r (Throw b) e)
 doing_good x goal cut s r Halt e next = inl (performed x goal cut s r Halt e)
 doing_good x goal cut s r (HaltWith n) e next = inl (performed x goal cut s r (HaltWith n) e)
+doing_good x goal cut s r (Database a) e next = inl (performed x goal cut s r (Database a) e)
 doing_good x goal cut s r (Builtin row args) e next = inl (performed x goal cut s r (Builtin row args) e)
 doing_good x goal cut s r (User i) e next = inl (performed x goal cut s r (User i) e)
 
@@ -275,7 +276,7 @@ settles_within x (suc k) s lt = by_mode s.mode (settles_within x k)
     by_mode (Raising ball) below = raising_settles x k below s ball lt
 
 -- from each state a step is taken, or the run is over or doesn't fit, after finitely many moves without a step
-settles : (x : Setting) (s : State) → Settles x s
+pub settles : (x : Setting) (s : State) → Settles x s
 settles x s = settles_within x (suc (length s.stack)) s (omega arith)
 
 -- each state comes to an end, or to a move that doesn't fit

@@ -8,13 +8,13 @@ use Rattle.std.proofs.lemmas.List.Sums.{sum_by_push}
 use Rattle.prolog_terms.specs.Tree.{Tree}
 use Rattle.prolog_terms.specs.Substitutions.{renamed}
 use Rattle.prolog_terms.specs.declared.entry.Clause.{Clause}
-use Rattle.journal_base.specs.Calls.{Goal}
-use Rattle.journal_base.specs.Journal.{Journal, clause_named}
+use Rattle.journal_base.specs.Goals.{Goal}
+use Rattle.journals.specs.Journal.{Journal, clause_named}
 use Rattle.journal_base.specs.View.{has_more}
 use Rattle.journal_base.specs.declared.tally.Tally.{Tally}
 use Rattle.term_unifier.specs.Unifier.{unifier}
 use Rattle.wam_machine.specs.Machine as spec
-use Rattle.wam_machine.specs.Machine.{State, Outcome, Goes, Clauses, Look, Next, numbering, entering, equating, solving, leaving, trying, body_from, newest}
+use Rattle.wam_machine.specs.Machine.{State, Outcome, Goes, Clauses, Look, Deed, Next, numbering, entering, equating, solving, leaving, trying, body_from, newest}
 use Rattle.wam_machine.specs.Terms.{Left, OfCall, Saved, Said, said, built, call_in, calls_in, call_now, saved_now, IsSolved, AreEquated, IsEntered}
 use Rattle.wam_machine.specs.Cursors.{part, names_left, clauses_left, visits_left, AreNamed}
 use Rattle.wam_machine.specs.View.{mode_of, choice_of, stack_of, state_with, state_of, settled_mode, all_visits, aheads, Tries, Attempts, IsPushed, calls}
@@ -62,7 +62,7 @@ module _ {C : Type 0} (old mid : Terms C) (call : Call C) (unsaid : said mid ≡
 
 -- ---- terms that are made one
 
-module _ {C : Type 0} (rest : C → Goal → Journal → List ℕ) (at : C → ℕ) (j : Journal) (goals : List Next) (old new : Said C) (mode : Mode) (steps : ℕ) (events : List Event) (front : ℕ) (looks : List Look) (tried : ℕ) (fronts : List ℕ) (done : Bool) where
+module _ {C : Type 0} (rest : C → Goal → Journal → List ℕ) (at : C → ℕ) (j : Journal) (goals : List Next) (old new : Said C) (mode : Mode) (steps : ℕ) (events : List Event) (front : ℕ) (looks : List Deed) (tried : ℕ) (fronts : List ℕ) (done : Bool) where
   solved : (o : Option (ℕ → Tree)) → IsSolved goals old new done o
       → solving goals (state_with rest at j old (mode_of mode) steps events front looks tried fronts) o ≡ Goes (state_with rest at j new (mode_of (settled_mode mode done)) steps events front looks tried fronts)
   solved None h = rw (h.0, h.1) refl
@@ -97,7 +97,7 @@ module _ {C : Type 0} (rest : C → Goal → Journal → List ℕ) (at : C → �
   unfolding clauses_left AreNamed
   left_over c s named = leaves c.goal (clause_named (part at j c)) (names_left rest at j c) s named
 
-  module _ (c : Left C) (clause : Clause) (old kept new : Said C) (mode : Mode) (steps : ℕ) (events : List Event) (front : ℕ) (looks : List Look) (tried : ℕ) (fronts : List ℕ) where
+  module _ (c : Left C) (clause : Clause) (old kept new : Said C) (mode : Mode) (steps : ℕ) (events : List Event) (front : ℕ) (looks : List Deed) (tried : ℕ) (fronts : List ℕ) where
     at_terms : Said C → State
     at_terms t = state_with rest at j t (mode_of mode) steps events front looks tried fronts
 
@@ -142,7 +142,7 @@ module _ {C : Type 0} (rest : C → Goal → Journal → List ℕ) (at : C → �
       → cut ≡ length (said old.terms).stack
       → IsEntered c.goal clause cut (said kept.terms) (said new.terms) done
       → new.mode ≡ settled_mode old.mode done → new.steps ≡ old.steps → new.events.items ≡ old.events.items → new.front ≡ old.front
-      → (looks : List Look) (tried : ℕ) (fronts : List ℕ)
+      → (looks : List Deed) (tried : ℕ) (fronts : List ℕ)
       → trying c.goal (clause ∷ clauses_left rest at j c) (state_of rest at j old looks tried fronts) ≡ Goes (state_of rest at j new looks (tried + 1) fronts)
   unfolding at_terms
   attempted c clause old kept new cut done named same stack height enters mode steps events front looks tried fronts =

@@ -1,5 +1,5 @@
 -- Over clauses with bodies, each goal is a body at its turn.
-use Rattle.std.proofs.Common.{◌≡◌, ℕ, zero, suc, ◌+◌, ◌-◌, List, [], ◌∷◌, ◌++◌, Bool, true, false, length, take, map, refl, subst}
+use Rattle.std.proofs.Common.{◌≡◌, ℕ, zero, suc, ◌+◌, ◌-◌, List, [], ◌∷◌, ◌++◌, Bool, true, false, length, take, map, refl, sym, subst}
 use Rattle.std.specs.Prelude.{pos, All, IsTrue, IfSome, IsSome, Option, Some, None, ◌==◌, ◌&&◌, ◌||◌, if◌then◌else◌, nat_le, nat_lt, codes, filter_map, slice_get, option_and_then}
 use Rattle.std.specs.List.{cons_option}
 use Rattle.std.proofs.lemmas.List.Elements.{All-nil, All-cons, All-head, All-tail, All-append, All-take, All-drop}
@@ -12,17 +12,18 @@ use Rattle.prolog_terms.specs.declared.entry.Clause.{Clause}
 use Rattle.prolog_terms.specs.declared.entry.Entry.{Entry}
 use Rattle.prolog_terms.specs.declared.entry.Indicator.{Indicator}
 use Rattle.prolog_terms.specs.declared.fault.Fault.TheVariants.{Representation}
-use Rattle.journal_base.specs.Journal.{Journal, number_of, clause_named, added}
-use Rattle.journal_base.specs.Candidates.{candidates}
-use Rattle.journal_base.specs.Keys.{keys}
+use Rattle.journals.specs.Journal.{Journal, number_of, clause_named, added}
+use Rattle.call_patterns.specs.Candidates.{candidates}
+use Rattle.call_patterns.specs.Keys.{keys}
 use Rattle.term_unifier.specs.Unifier.{unifier}
 use Rattle.term_builtins.specs.Meanings.{Meaning, Holds, Equates, Writes, Puts, Raises, list_tree}
 use Rattle.term_builtins.specs.Table.{builtins, place_in}
-use Rattle.wam_machine.specs.Control.{Control, True, Fail, Cut, Repeat, Both, Either, IfElse, If, Not, Call, Once, Catch, Findall, Throw, Halt, HaltWith, Builtin, User, control_of, control_with_none, control_with_one, control_of_either, control_with_two, control_with_three, control_with_more, or_call, first_body, with_added, is_true_atom, builtin_or_user, plain}
+use Rattle.wam_machine.specs.Control.{Control, True, Fail, Cut, Repeat, Both, Either, IfElse, If, Not, Call, Once, Catch, Findall, Throw, Halt, HaltWith, Database, Builtin, User, control_of, control_with_none, control_with_one, control_of_either, control_with_two, control_with_three, control_with_more, or_call, first_body, with_added, is_true_atom, builtin_or_user, plain}
 use Rattle.wam_machine.specs.declared.run.RunEnd.{RunEnd}
 use Rattle.wam_machine.specs.declared.run.RunEnd.TheVariants.{Exhausted, Ball, Spent, Halted}
-use Rattle.wam_machine.specs.Machine.{Next, Do, ConditionEnd, NotEnd, CatchEnd, FindallEnd, Alternative, Clauses, Right, Again, NotMark, CatchMark, FindallMark, Choice, Mode, Going, Failing, Raising, State, Setting, Outcome, Goes, Ends, Unfit, no_more, made_all, over, stepping, onwards, pushed, height, next_under, solving, numbering, body_from, entering, leaving, trying, candidate_clauses, looked, called, calling, call_with, raises, running, calling_added, denying, catching, gathering, gathered, new_copies, behind_copies, found_at, throwing, halting, cut_back, active_catch, recovering, reaching, reached, caught, repeating, performing, doing, going, back_to, taken, failing, raising, move, beginning, CanBeDone, HasBody, CanBeTaken, CanGoBack, IsWellMade, HasBodies, GoalsAreBodies, coming_to, calling_builtin}
+use Rattle.wam_machine.specs.Machine.{Next, Do, ConditionEnd, NotEnd, CatchEnd, FindallEnd, Alternative, Clauses, Right, Again, NotMark, CatchMark, FindallMark, Choice, Mode, Going, Failing, Raising, State, Setting, Outcome, Goes, Ends, Unfit, no_more, over, stepping, onwards, pushed, height, next_under, solving, numbering, body_from, entering, leaving, trying, candidate_clauses, looked, called, calling, call_with, raises, running, calling_added, denying, catching, gathering, gathered, new_copies, behind_copies, throwing, halting, cut_back, active_catch, recovering, reaching, reached, caught, repeating, performing, doing, going, back_to, taken, failing, raising, move, beginning, CanBeDone, HasBody, CanBeTaken, CanGoBack, IsWellMade, HasBodies, GoalsAreBodies, coming_to, calling_builtin, accessing}
 use Rattle.wam_machine.proofs.FoundAt.{found-back}
+use Rattle.wam_machine.proofs.Accessed.{GoesBeside, accessing-beside}
 use Rattle.prolog_terms.proofs.Converted.{both_true, first_true, second_true, is_converted}
 
 -- ---- bodies
@@ -60,6 +61,7 @@ HasParts (Findall t g l) = Unit {0}
 HasParts (Throw b) = Unit {0}
 HasParts Halt = Unit {0}
 HasParts (HaltWith n) = Unit {0}
+HasParts (Database a) = Unit {0}
 HasParts (Builtin row args) = Unit {0}
 HasParts (User i) = Unit {0}
 
@@ -79,7 +81,7 @@ none_parts : (a : List ℕ) → HasParts (control_with_none a)
 none_parts a = choose (is_named (codes "true") a) _ _ tt (choose (is_named (codes "fail") a) _ _ tt (choose (is_named (codes "!") a) _ _ tt (choose (is_named (codes "repeat") a) _ _ tt (choose (is_named (codes "halt") a) _ _ tt (plain_parts a none)))))
 
 one_parts : (f : List ℕ) (a : Tree) → HasParts (control_with_one f a)
-one_parts f a = choose (is_named (codes "call") f) _ _ tt (choose (is_named (codes "once") f) _ _ tt (choose (is_named (codes "\\+") f) _ _ tt (choose (is_named (codes "throw") f) _ _ tt (choose (is_named (codes "halt") f) _ _ tt (plain_parts f (more a none))))))
+one_parts f a = choose (is_named (codes "call") f) _ _ tt (choose (is_named (codes "once") f) _ _ tt (choose (is_named (codes "\\+") f) _ _ tt (choose (is_named (codes "throw") f) _ _ tt (choose (is_named (codes "halt") f) _ _ tt (choose (is_named (codes "asserta") f) _ _ tt (choose (is_named (codes "assertz") f) _ _ tt (plain_parts f (more a none))))))))
 
 three_parts : (f : List ℕ) (a b c : Tree) → HasParts (control_with_three f a b c)
 three_parts f a b c = choose (is_named (codes "catch") f) _ _ tt (choose (is_named (codes "findall") f) _ _ tt (choose (is_named (codes "call") f) _ _ tt (plain_parts f (more a (more b (more c none))))))
@@ -267,9 +269,9 @@ throwing-makes (atom a) s h = record { goals = h.goals; stack = h.stack }
 throwing-makes (compound f ts) s h = record { goals = h.goals; stack = h.stack }
 
 over-makes : (x : Setting) (s : State) (e : RunEnd) → Makes (over x s e)
-over-makes x s e = go (no_more s.fronts && made_all x)
+over-makes x s e = go (no_more s.fronts)
   where
-    go : (b : Bool) → Makes (if b then Ends (record { events = s.events; looks = s.looks; tried = s.tried; steps = s.steps; end = e }) else Unfit)
+    go : (b : Bool) → Makes (if b then Ends (record { events = s.events; deeds = s.deeds; tried = s.tried; steps = s.steps; end = e }) else Unfit)
     go true = tt
     go false = tt
 
@@ -288,6 +290,12 @@ calling_added-makes (compound f ts) added s h = go (nat_lt 255 (count ts + count
     go : (b : Bool) → Makes (if b then raises (Representation (codes "max_arity")) (call_with added) s else running (with_added (compound f ts) added) (call_with added) s (body_of (with_added (compound f ts) added)))
     go true = record { goals = h.goals; stack = h.stack }
     go false = running-makes (with_added (compound f ts) added) (call_with added) s (body_of (with_added (compound f ts) added)) (is_converted (with_added (compound f ts) added)) h
+
+-- what is asked of the database leaves what is to be done as it is
+beside-makes : (s : State) (o : Outcome) → IsWellMade s → GoesBeside s o → Makes o
+beside-makes s (Goes t) h b = record { goals = subst (All CanBeDone) (sym b.goals) h.goals; stack = subst (All CanGoBack) (sym b.stack) h.stack }
+beside-makes s (Ends r) h b = absurd b
+beside-makes s Unfit h b = tt
 
 performing-makes : (x : Setting) (goal : Tree) (cut : ℕ) (c : Control) (s : State) → HasBodies x.journal → HasParts c → IsWellMade s → Makes (performing x goal cut c s)
 performing-makes x goal cut True s b p h = h
@@ -312,6 +320,7 @@ performing-makes x goal cut (Findall t g l) s b p h = gathering-makes t g l s (b
 performing-makes x goal cut (Throw t) s b p h = throwing-makes t s h
 performing-makes x goal cut Halt s b p h = over-makes x s (Halted (pos 0))
 performing-makes x goal cut (HaltWith n) s b p h = halting-makes x n s h
+performing-makes x goal cut (Database a) s b p h = beside-makes s (accessing x a s) h (accessing-beside x a s)
 performing-makes x goal cut (Builtin row args) s b p h = builtin-makes x.ops row args s h
 performing-makes x goal cut (User i) s b p h = calling-makes x s goal i b h
 
@@ -342,6 +351,7 @@ doing-makes x goal cut s (Findall t g l) b p h = performed-makes x goal cut s (F
 doing-makes x goal cut s (Throw t) b p h = performed-makes x goal cut s (Throw t) b p h
 doing-makes x goal cut s Halt b p h = performed-makes x goal cut s Halt b p h
 doing-makes x goal cut s (HaltWith n) b p h = performed-makes x goal cut s (HaltWith n) b p h
+doing-makes x goal cut s (Database a) b p h = performed-makes x goal cut s (Database a) b p h
 doing-makes x goal cut s (Builtin row args) b p h = performed-makes x goal cut s (Builtin row args) b p h
 doing-makes x goal cut s (User i) b p h = performed-makes x goal cut s (User i) b p h
 

@@ -4,7 +4,14 @@ use Rattle.prolog_terms.specs.Tree.{Tree, Trees, variable, integer, atom, compou
 use Rattle.prolog_terms.specs.Clauses.{is_named, call_term, body_of}
 use Rattle.prolog_terms.specs.Faults.{two}
 use Rattle.prolog_terms.specs.declared.entry.Indicator.{Indicator}
+use Rattle.prolog_terms.specs.declared.entry.End.{End}
+use Rattle.prolog_terms.specs.declared.entry.End.TheVariants.{Front, Back}
 use Rattle.term_builtins.specs.Table.{builtins, place_in}
+
+-- what a goal asks of the database, other than the call of a procedure
+pub data Access : Type 0 where
+  -- a clause is added at an end
+  Assert : (end : End) (clause : Tree) → Access
 
 pub data Control : Type 0 where
   True : Control
@@ -35,6 +42,8 @@ pub data Control : Type 0 where
   Halt : Control
   -- the run is ended, with a number
   HaltWith : (code : Tree) → Control
+  -- the database is asked for something
+  Database : (access : Access) → Control
   -- a builtin on terms, by its place in the table, with its arguments
   Builtin : (row : ℕ) (args : Trees) → Control
   -- any other goal, by its name and arity
@@ -64,6 +73,8 @@ control_with_one f a =
     else if is_named (codes "\\+") f then Not a
     else if is_named (codes "throw") f then Throw a
     else if is_named (codes "halt") f then HaltWith a
+    else if is_named (codes "asserta") f then Database (Assert Front a)
+    else if is_named (codes "assertz") f then Database (Assert Back a)
     else plain f (more a none)
 
 -- a `;`: a condition with an else where the left side is a `->`

@@ -1,9 +1,9 @@
 -- Calls over a base, as seen from one journal.
 use Rattle.std.specs.Prelude.{◌≡◌, ℕ, ◌+◌, ◌≤◌, List, take, All, filter_map, IsSome}
 use Rattle.prolog_terms.specs.declared.entry.Clause.{Clause}
-use Rattle.journal_base.specs.Keys.{keys}
-use Rattle.journal_base.specs.Calls.{Goal}
-use Rattle.journal_base.specs.Journal.{Journal, clause_named}
+use Rattle.call_patterns.specs.Keys.{keys}
+use Rattle.journal_base.specs.Goals.{Goal}
+use Rattle.journals.specs.Journal.{Journal, clause_named}
 use Rattle.journal_base.specs.Looks.{allowance, most_raised}
 use Rattle.journal_base.specs.View.{View}
 use Rattle.journal_base.specs.declared.cause.How.{How}

@@ -12,8 +12,10 @@ use Rattle.wam_machine.specs.Control.{control_of, control_of_either, plain}
 use Rattle.wam_machine.specs.Spine.{Part, Leaf, Joint, is_plain_goal}
 use Rattle.wam_machine.specs.Machine.{State, calling_added, raises, running, call_with}
 use Rattle.wam_machine.specs.Terms.{IsGoal, IsBuilt, built}
+use Rattle.wam_machine.specs.declared.control.Access.{Access}
+use Rattle.wam_machine.specs.declared.control.Access.TheVariants.{Assert}
 use Rattle.wam_machine.specs.declared.control.Control.{Control}
-use Rattle.wam_machine.specs.declared.control.Control.TheVariants.{True, Fail, Cut, Repeat, Both, Either, IfElse, If, Not, Call, Once, Catch, Findall, Throw, Halt, HaltWith, Builtin, User}
+use Rattle.wam_machine.specs.declared.control.Control.TheVariants.{True, Fail, Cut, Repeat, Both, Either, IfElse, If, Not, Call, Once, Catch, Findall, Throw, Halt, HaltWith, Database, Builtin, User}
 use Rattle.wam_machine.specs.declared.bodies.Kind.{Kind}
 use Rattle.wam_machine.specs.declared.bodies.Kind.TheVariants as kind
 use Rattle.wam_machine.specs.declared.bodies.Part.{Part as Met}
@@ -23,6 +25,17 @@ use Rattle.wam_machine.specs.declared.build.Added.TheVariants as is
 use Rattle.wam_machine.specs.declared.terms.Terms.{Terms}
 
 -- ---- control
+
+-- what is asked of the database, where cells have these terms
+abbrev pub access_in : (Cell → Tree) → Access → spec.Access
+access_in tree (Assert end c) = spec.Assert end (tree c)
+
+-- so it is of the cells of what is asked
+abbrev pub IsOfAccess : (Cell → Type 0) → Access → Type 0
+IsOfAccess P (Assert end c) = P c
+
+abbrev pub IsAccess : {C : Type 0} → Terms C → Access → Type 0
+IsAccess t a = IsOfAccess (IsBuilt t) a
 
 -- what is found, where cells have these terms
 abbrev pub control_in : (Cell → Tree) → Control → spec.Control
@@ -42,6 +55,7 @@ control_in tree (Findall t g l) = spec.Findall (tree t) (tree g) (tree l)
 control_in tree (Throw b) = spec.Throw (tree b)
 control_in tree Halt = spec.Halt
 control_in tree (HaltWith n) = spec.HaltWith (tree n)
+control_in tree (Database a) = spec.Database (access_in tree a)
 control_in tree (Builtin row args) = spec.Builtin row (trees_of tree args.items)
 control_in tree (User i) = spec.User i
 
@@ -63,6 +77,7 @@ AreAmong P (Findall t g l) = P t × P g × P l
 AreAmong P (Throw b) = P b
 AreAmong P Halt = Unit {0}
 AreAmong P (HaltWith n) = P n
+AreAmong P (Database a) = IsOfAccess P a
 AreAmong P (Builtin row args) = (row < length builtins) × All P args.items
 AreAmong P (User i) = Unit {0}
 
@@ -84,6 +99,7 @@ AreGoals P (Findall t g l) = Unit {0}
 AreGoals P (Throw b) = Unit {0}
 AreGoals P Halt = Unit {0}
 AreGoals P (HaltWith n) = Unit {0}
+AreGoals P (Database a) = Unit {0}
 AreGoals P (Builtin row args) = Unit {0}
 AreGoals P (User i) = Unit {0}
 
@@ -132,6 +148,7 @@ IsConstruct (Findall t g l) = Unit {0}
 IsConstruct (Throw b) = Unit {0}
 IsConstruct Halt = ⊥
 IsConstruct (HaltWith n) = ⊥
+IsConstruct (Database a) = ⊥
 IsConstruct (Builtin row args) = Unit {0}
 IsConstruct (User i) = ⊥
 
@@ -153,6 +170,7 @@ IsSimple (Findall t g l) = Unit {0}
 IsSimple (Throw b) = Unit {0}
 IsSimple Halt = Unit {0}
 IsSimple (HaltWith n) = Unit {0}
+IsSimple (Database a) = Unit {0}
 IsSimple (Builtin row args) = Unit {0}
 IsSimple (User i) = Unit {0}
 

@@ -1,4 +1,6 @@
 pub mod Control
+pub mod Reserved
+pub mod Defined
 pub mod Spine
 pub mod Machine
 pub mod Runs
@@ -10,4 +12,5 @@ pub mod Balls
 pub mod Beyond
 pub mod Cursors
 pub mod View
+pub mod Found
 pub mod Rows

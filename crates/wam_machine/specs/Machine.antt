@@ -3,31 +3,44 @@
 --
 -- The goals that are still to be done stand with what their variables stand for: what is bound further is put into them too. So a
 -- state says nothing of how terms and bindings are kept.
-use Rattle.std.specs.Prelude.{IsTrue, IfSome, IsSome, All, ◌≡◌, ℕ, suc, pos, ◌+◌, ◌-◌, ◌≤◌, ◌⊎◌, Bool, true, false, ◌==◌, ◌&&◌, List, [], ◌∷◌, ◌++◌, length, replicate, take, drop, nat_le, nat_lt, if◌then◌else◌, Option, Some, None, codes, filter_map, map}
+use Rattle.std.specs.Prelude.{IsTrue, IfSome, IsSome, All, ◌≡◌, ℕ, suc, pos, ◌+◌, ◌-◌, ◌≤◌, ◌⊎◌, Bool, true, false, ◌==◌, ◌&&◌, ◌||◌, List, [], ◌∷◌, ◌++◌, length, replicate, take, drop, nat_le, nat_lt, if◌then◌else◌, Option, Some, None, codes, filter_map, map, slice_get}
 use Rattle.std.specs.List.{list_any}
+use Rattle.std.specs.Option.{option_map_or}
 use Rattle.prolog_terms.specs.Tree.{Tree, Trees, variable, integer, atom, compound, none, more, count}
 use Rattle.prolog_terms.specs.Operators.{Table}
 use Rattle.prolog_terms.specs.Substitutions.{substituted, numbered, renamed, beyond}
 use Rattle.prolog_terms.specs.Clauses.{is_body, call_term, body_of}
-use Rattle.prolog_terms.specs.Faults.{two, fault_tree}
+use Rattle.prolog_terms.specs.Faults.{two, fault_tree, indicator_tree}
+use Rattle.prolog_terms.specs.Indicators.{indicator_of}
 use Rattle.prolog_terms.specs.declared.entry.Clause.{Clause}
 use Rattle.prolog_terms.specs.declared.entry.Entry.{Entry}
 use Rattle.prolog_terms.specs.declared.entry.Indicator.{Indicator}
+use Rattle.prolog_terms.specs.declared.entry.Kind.{Kind}
+use Rattle.prolog_terms.specs.declared.entry.Kind.TheVariants.{Static, Dynamic}
+use Rattle.prolog_terms.specs.declared.entry.End.{End}
+use Rattle.prolog_terms.specs.declared.entry.End.TheVariants.{Front, Back}
+use Rattle.prolog_terms.specs.declared.entry.What.{What}
+use Rattle.prolog_terms.specs.declared.entry.What.TheVariants.{Declare, Add}
 use Rattle.prolog_terms.specs.declared.fault.Fault.{Fault}
-use Rattle.prolog_terms.specs.declared.fault.Fault.TheVariants.{Instantiation, OfType, Existence, Representation}
+use Rattle.prolog_terms.specs.declared.fault.Fault.TheVariants.{Instantiation, OfType, Existence, Representation, Permission, Resource}
 use Rattle.prolog_terms.specs.declared.shown.Shown.{Shown}
-use Rattle.journal_base.specs.Keys.{GoalKeys, keys}
-use Rattle.journal_base.specs.Journal.{Journal, number_of, clause_named, added}
+use Rattle.call_patterns.specs.Keys.{GoalKeys, keys}
+use Rattle.journals.specs.Journal.{Journal, number_of, procedure_named, clause_named, added}
+use Rattle.journal_base.specs.Space.{used, need}
 use Rattle.journal_base.specs.Legal.{Legal}
-use Rattle.journal_base.specs.Candidates.{candidates}
-use Rattle.journal_base.specs.Calls.{Goal}
+use Rattle.call_patterns.specs.Candidates.{candidates}
+use Rattle.journal_base.specs.Goals.{Goal}
 use Rattle.journal_base.specs.View.{entries_by}
+use Rattle.prolog_clauses.specs.Formed.{clause_of}
+use Rattle.prolog_clauses.specs.declared.clause.Formed.{Formed}
+use Rattle.prolog_clauses.specs.declared.clause.Formed.TheVariants.{Clause as Made, Refused}
 use Rattle.term_unifier.specs.Unifier.{unifier}
 use Rattle.term_builtins.specs.Meanings.{Meaning, Holds, Equates, Writes, Puts, Raises, meaning, list_tree}
 use Rattle.term_builtins.specs.Table.{builtins, indicator}
 use Rattle.prolog_writer.specs.Pieces.{written}
 use Rattle.term_builtins.specs.Answers.{row_at}
-use Rattle.wam_machine.specs.Control.{Control, True, Fail, Cut, Repeat, Both, Either, IfElse, If, Not, Call, Once, Catch, Findall, Throw, Halt, HaltWith, Builtin, User, control_of, first_body, with_added, body_goals}
+use Rattle.wam_machine.specs.Reserved.{is_reserved}
+use Rattle.wam_machine.specs.Control.{Access, Assert, Control, True, Fail, Cut, Repeat, Both, Either, IfElse, If, Not, Call, Once, Catch, Findall, Throw, Halt, HaltWith, Database, Builtin, User, control_of, first_body, with_added, body_goals}
 use Rattle.wam_machine.specs.declared.run.Event.{Event}
 use Rattle.wam_machine.specs.declared.run.Event.TheVariants.{Answer, Wrote}
 use Rattle.wam_machine.specs.declared.run.RunEnd.{RunEnd}
@@ -81,6 +94,27 @@ pub record Look : Type 0 where
   pub front : ℕ
   pub call : Goal
 
+-- what was done at the database, in order: a look, or an update that was made
+pub data Deed : Type 0 where
+  Looked : (look : Look) → Deed
+  Updated : (entry : Entry) → Deed
+
+abbrev pub look_in : Deed → Option Look
+look_in (Looked look) = Some look
+look_in (Updated entry) = None
+
+abbrev pub entry_in : Deed → Option Entry
+entry_in (Looked look) = None
+entry_in (Updated entry) = Some entry
+
+-- the looks among what was done
+abbrev pub looks_in : List Deed → List Look
+looks_in deeds = filter_map look_in deeds
+
+-- the updates that were made
+abbrev pub made_in : List Deed → List Entry
+made_in deeds = filter_map entry_in deeds
+
 pub record State : Type 0 where
   pub mode : Mode
   -- what is still to be done, first things first
@@ -94,18 +128,21 @@ pub record State : Type 0 where
   pub steps : ℕ
   -- what happened so far, in order
   pub events : List Event
-  pub looks : List Look
+  -- what was done at the database
+  pub deeds : List Deed
   -- how many clauses were tried
   pub tried : ℕ
   -- the front that was taken last, and those still to be taken
   pub front : ℕ
   pub fronts : List ℕ
 
--- what a run stands on: the engine that makes it, the journal at its end, the front at its beginning, its budget of steps, the
--- term of which each answer gives the value, and the operators under which terms are written
+-- what a run stands on: the engine that makes it, the journal at its end and how many words and updates it may have, the front at its
+-- beginning, its budget of steps, the term of which each answer gives the value, and the operators under which terms are written
 pub record Setting : Type 0 where
   pub engine : ℕ
   pub journal : Journal
+  pub words : ℕ
+  pub updates : ℕ
   pub start : ℕ
   pub budget : ℕ
   pub shown : Tree
@@ -115,7 +152,7 @@ pub record Setting : Type 0 where
 -- what a run gives
 pub record Report : Type 0 where
   pub events : List Event
-  pub looks : List Look
+  pub deeds : List Deed
   pub tried : ℕ
   pub steps : ℕ
   pub end : RunEnd
@@ -132,18 +169,9 @@ abbrev pub no_more : List ℕ → Bool
 no_more [] = true
 no_more (f ∷ fs) = false
 
-abbrev pub no_entries : List Entry → Bool
-no_entries [] = true
-no_entries (e ∷ es) = false
-
--- The engine's own entries since the run's beginning are the updates that the run made. A goal makes none.
-abbrev pub made_all : Setting → Bool
-made_all x = no_entries (entries_by x.engine (drop x.start x.journal))
-
--- the run is over, it has taken each front, and has made each entry of its engine
+-- the run is over, and has taken each front
 abbrev pub over : Setting → State → RunEnd → Outcome
-over x s end =
-    if no_more s.fronts && made_all x then Ends (record { events = s.events; looks = s.looks; tried = s.tried; steps = s.steps; end = end }) else Unfit
+over x s end = if no_more s.fronts then Ends (record { events = s.events; deeds = s.deeds; tried = s.tried; steps = s.steps; end = end }) else Unfit
 
 -- a step is done, where the budget leaves one
 abbrev pub stepping : Setting → State → (State → Outcome) → Outcome
@@ -235,7 +263,7 @@ abbrev pub call_of : ℕ → Tree → Goal
 call_of p goal = record { procedure = p; keys = keys goal }
 
 abbrev pub looked : ℕ → State → ℕ → Tree → State
-looked before s p goal = record s { looks = s.looks ++ record { before = before; front = s.front; call = call_of p goal } ∷ [] }
+looked before s p goal = record s { deeds = s.deeds ++ Looked (record { before = before; front = s.front; call = call_of p goal }) ∷ [] }
 
 -- a call in the journal that is seen, where the front before was so
 abbrev pub called : Tree → Indicator → ℕ → Journal → State → Option ℕ → Outcome
@@ -354,6 +382,88 @@ coming_to ops at s (Raises fault) = raises fault at s
 unfoldable pub calling_builtin : Table → ℕ → Trees → State → Outcome
 calling_builtin ops row args s = coming_to ops (indicator (row_at builtins row)) s (meaning (row_at builtins row).what s.fresh args)
 
+-- ---- updates of the database
+
+-- an update by the run's engine, among what was done
+abbrev pub updated : Setting → What → State → State
+updated x what s = record s { deeds = s.deeds ++ Updated (record { by = x.engine; what = what }) ∷ [] }
+
+-- the last entry of a journal is the engine's
+abbrev pub ends_with_own : ℕ → Journal → Bool
+ends_with_own engine J = option_map_or (λ e. e.by == engine) (slice_get J (length J - 1)) false
+
+-- An update that was asked for is done where its front is past the one before and the last entry that is seen is the engine's: that is its
+-- entry.
+abbrev pub is_done : Setting → ℕ → Journal → Bool
+is_done x before seen = nat_lt before (length seen) && ends_with_own x.engine seen
+
+-- in what is seen there is no room for an update
+abbrev pub is_full : Setting → Journal → What → Bool
+is_full x seen what = nat_lt x.words (used seen + need what) || x.updates == length seen
+
+-- an update is asked for at the next front: what follows where it is done, and where it isn't
+abbrev pub asking : Setting → What → State → (Journal → State → Outcome) → (Journal → State → Outcome) → Outcome
+asking x what s done refused = taking x s (λ seen t. if is_done x s.front seen then done seen (updated x what t) else refused seen t)
+
+abbrev pub no_room : Fault
+no_room = Resource (codes "database")
+
+-- an update that isn't done has no room
+abbrev pub refusing : Setting → Indicator → What → Journal → State → Outcome
+refusing x at what seen s = if is_full x seen what then raises no_room at s else Unfit
+
+-- no goal may change the procedure of this name and arity
+abbrev pub no_change : Indicator → Fault
+no_change i = Permission (codes "modify") (codes "static_procedure") (indicator_tree i)
+
+-- ---- clauses that are added
+
+abbrev pub assert_at : End → Indicator
+assert_at Front = record { name = codes "asserta"; arity = 1 }
+assert_at Back = record { name = codes "assertz"; arity = 1 }
+
+-- a clause is added to the procedure of this number
+abbrev pub adding : Setting → End → Clause → State → ℕ → Outcome
+adding x end c s p = asking x (Add end p c) s (λ seen t. Goes t) (refusing x (assert_at end) (Add end p c))
+
+-- to a procedure, unless it is static
+abbrev pub adding_to : Setting → End → Indicator → Clause → State → ℕ → Kind → Outcome
+adding_to x end i c s p Static = raises (no_change i) (assert_at end) s
+adding_to x end i c s p Dynamic = adding x end c s p
+
+-- to the procedure that was found, if there is one
+abbrev pub adding_where : Setting → End → Indicator → Clause → State → Option (ℕ × Kind) → Outcome → Outcome
+adding_where x end i c s None absent = absent
+adding_where x end i c s (Some d) absent = adding_to x end i c s d.0 d.1
+
+-- to a procedure that is declared dynamic first; another engine may have declared it meanwhile
+abbrev pub declaring : Setting → End → Indicator → Clause → State → Outcome
+declaring x end i c s =
+    asking x (Declare i Dynamic) s
+    (λ seen t. adding_where x end i c t (procedure_named seen i) Unfit)
+    (λ seen t. adding_where x end i c t (procedure_named seen i) (refusing x (assert_at end) (Declare i Dynamic) seen t))
+
+-- to the procedure of this name and arity, which is looked for in what is seen at the next front
+abbrev pub adding_named : Setting → End → Indicator → Clause → State → Outcome
+adding_named x end i c s = taking x s (λ seen t. adding_where x end i c t (procedure_named seen i) (declaring x end i c t))
+
+-- to that of its head, unless that is a control construct or a builtin (each clause's head has a name)
+abbrev pub adding_clause : Setting → End → Clause → State → Option Indicator → Outcome
+adding_clause x end c s None = Unfit
+adding_clause x end c s (Some i) = if is_reserved i then raises (no_change i) (assert_at end) s else adding_named x end i c s
+
+abbrev pub adding_formed : Setting → End → State → Formed → Outcome
+adding_formed x end s (Refused fault) = raises fault (assert_at end) s
+adding_formed x end s (Made c) = adding_clause x end c s (indicator_of c.head)
+
+-- a copy of a term is added as a clause, its variables numbered by first occurrence; what is amiss with the term comes first
+abbrev pub asserting : Setting → End → Tree → State → Outcome
+asserting x end t s = adding_formed x end s (clause_of (numbered t))
+
+-- the database is asked for something
+unfoldable pub accessing : Setting → Access → State → Outcome
+accessing x (Assert end t) s = asserting x end t s
+
 -- ---- goals
 
 abbrev pub repeating : State → Outcome
@@ -378,6 +488,7 @@ performing x goal cut (Findall t g l) s = gathering t g l s (body_of g)
 performing x goal cut (Throw b) s = throwing b s
 performing x goal cut Halt s = over x s (Halted (pos 0))
 performing x goal cut (HaltWith n) s = halting x n s
+performing x goal cut (Database access) s = accessing x access s
 performing x goal cut (Builtin row args) s = calling_builtin x.ops row args s
 performing x goal cut (User i) s = calling x s goal i
 
@@ -399,6 +510,7 @@ doing x goal cut s (Findall t g l) = stepping x s (performing x goal cut (Findal
 doing x goal cut s (Throw b) = stepping x s (performing x goal cut (Throw b))
 doing x goal cut s Halt = stepping x s (performing x goal cut Halt)
 doing x goal cut s (HaltWith n) = stepping x s (performing x goal cut (HaltWith n))
+doing x goal cut s (Database access) = stepping x s (performing x goal cut (Database access))
 doing x goal cut s (Builtin row args) = stepping x s (performing x goal cut (Builtin row args))
 doing x goal cut s (User i) = stepping x s (performing x goal cut (User i))
 
@@ -513,15 +625,17 @@ beginning x goal fronts = record {
   fresh = beyond goal;
   steps = 0;
   events = [];
-  looks = [];
+  deeds = [];
   tried = 0;
   front = x.start;
   fronts = fronts;
 }
 
--- the transcript of a goal over a journal, at these fronts
-abbrev pub Transcript : Setting → Tree → List ℕ → Report → Type 0
-Transcript x goal fronts report = Runs x (beginning x goal fronts) report
+-- The transcript of a goal over a journal, at these fronts: the entries of the engine since the run's beginning are the updates that the
+-- run made, each once and in order.
+pub record Transcript (x : Setting) (goal : Tree) (fronts : List ℕ) (report : Report) : Type 0 where
+  pub runs : Runs x (beginning x goal fronts) report
+  pub own : entries_by x.engine (drop x.start x.journal) ≡ made_in report.deeds
 
 -- the shown variables, as the list of which each answer gives the value
 abbrev pub shown_list : List Shown → Tree
@@ -541,9 +655,9 @@ pub data Misfits (x : Setting) : State → Type 0 where
   unfit : {s : State} → move x s ≡ Unfit → Misfits x s
   later : {s t : State} → move x s ≡ Goes t → Misfits x t → Misfits x s
 
--- a goal has a transcript over a journal and fronts, unless its run comes to a move that doesn't fit them
+-- a goal's run over a journal and fronts comes to an end, unless it comes to a move that doesn't fit them
 abbrev pub HasTranscript : Type 0
-HasTranscript = (x : Setting) (goal : Tree) (fronts : List ℕ) → ((r : Report) × Transcript x goal fronts r) ⊎ Misfits x (beginning x goal fronts)
+HasTranscript = (x : Setting) (goal : Tree) (fronts : List ℕ) → ((r : Report) × Runs x (beginning x goal fronts) r) ⊎ Misfits x (beginning x goal fronts)
 
 -- ---- goals are bodies
 
@@ -587,11 +701,15 @@ pub record GoalsAreBodies : Type 0 where
 abbrev pub LegalHasBodies : Type 0
 LegalHasBodies = (words updates : ℕ) (J : Journal) → Legal words updates J → HasBodies J
 
--- Over clauses with bodies each goal has a run, where the engine has no entries of its own: that at fronts which are all the
--- journal's length.
+-- the same setting, with these entries behind the journal
+abbrev pub with_entries : Setting → Journal → Setting
+with_entries x behind = record x { journal = x.journal ++ behind }
+
+-- Over clauses with bodies each goal has a transcript, where the engine has no entries of its own yet: that over the journal with the
+-- run's updates behind it.
 abbrev pub EachGoalRuns : Type 0
-EachGoalRuns = (x : Setting) (goal : Tree) → HasBodies x.journal → made_all x ≡ true → x.start ≤ length x.journal
-    → (n : ℕ) × ((r : Report) × Transcript x goal (replicate n (length x.journal)) r)
+EachGoalRuns = (x : Setting) (goal : Tree) → HasBodies x.journal → entries_by x.engine (drop x.start x.journal) ≡ [] → x.start ≤ length x.journal
+    → (made : List Entry) × ((fronts : List ℕ) × ((r : Report) × Transcript (with_entries x made) goal fronts r))
 
 -- ---- catches have their marks
 

@@ -1,16 +1,18 @@
 -- Worked rows: texts of clauses as journals, goals over them, and what their runs give.
-use Rattle.std.specs.Prelude.{ℕ, zero, suc, pos, List, [], ◌∷◌, length, codes, true, false}
+use Rattle.std.specs.Prelude.{ℕ, zero, suc, pos, List, [], ◌∷◌, ◌++◌, length, codes, true, false}
 use Rattle.prolog_terms.specs.Tree.{Tree, Trees, variable, integer, atom, compound, none, more}
 use Rattle.prolog_terms.specs.Operators.{initial_operators}
-use Rattle.prolog_terms.specs.Faults.{fault_tree}
+use Rattle.prolog_terms.specs.Faults.{fault_tree, indicator_tree}
 use Rattle.prolog_terms.specs.declared.entry.Entry.{Entry}
 use Rattle.prolog_terms.specs.declared.entry.Indicator.{Indicator}
-use Rattle.prolog_terms.specs.declared.entry.Kind.TheVariants.{Static}
-use Rattle.prolog_terms.specs.declared.entry.End.TheVariants.{Back}
+use Rattle.prolog_terms.specs.declared.entry.Kind.TheVariants.{Static, Dynamic}
+use Rattle.prolog_terms.specs.declared.entry.End.TheVariants.{Front, Back}
+use Rattle.prolog_terms.specs.declared.entry.End.{End}
 use Rattle.prolog_terms.specs.declared.entry.What.TheVariants.{Declare, Add}
-use Rattle.prolog_terms.specs.declared.fault.Fault.TheVariants.{Instantiation, OfType, Existence, Representation}
-use Rattle.journal_base.specs.Journal.{Journal}
-use Rattle.wam_machine.specs.Machine.{Setting, Look, Transcript}
+use Rattle.prolog_terms.specs.declared.fault.Fault.{Fault}
+use Rattle.prolog_terms.specs.declared.fault.Fault.TheVariants.{Instantiation, OfType, Existence, Representation, Permission, Resource}
+use Rattle.journals.specs.Journal.{Journal}
+use Rattle.wam_machine.specs.Machine.{Setting, Deed, Transcript}
 use Rattle.wam_machine.specs.declared.run.Event.{Event}
 use Rattle.wam_machine.specs.declared.run.Event.TheVariants.{Answer}
 use Rattle.wam_machine.specs.declared.run.RunEnd.{RunEnd}
@@ -61,15 +63,26 @@ fact number head = clause number head truth 0
 -- ---- what a run gives
 
 abbrev pub on : Journal → ℕ → List Tree → Setting
-on journal budget shown = record { engine = 1; journal = journal; start = length journal; budget = budget; shown = list_of shown; ops = initial_operators }
+on journal budget shown = record { engine = 1; journal = journal; words = 1000; updates = 100; start = length journal; budget = budget; shown = list_of shown; ops = initial_operators }
+
+-- A goal gives these events, so many steps and this end at these fronts, whatever was done at the database.
+pub record GivesIn (setting : Setting) (goal : Tree) (fronts : List ℕ) (events : List Event) (steps : ℕ) (end : RunEnd) : Type 0 where
+  pub deeds : List Deed
+  pub tried : ℕ
+  pub transcript : Transcript setting goal fronts (record { events = events; deeds = deeds; tried = tried; steps = steps; end = end })
 
 -- A goal with these shown variables, over this journal by engine 1, at these fronts and within this budget, gives these events, so many
--- steps and this end, for some looks.
-pub record Gives (journal : Journal) (budget : ℕ) (goal : Tree) (shown : List Tree) (fronts : List ℕ) (events : List Event) (steps : ℕ) (end : RunEnd) : Type 0 where
-  pub looks : List Look
-  pub tried : ℕ
-  pub transcript : Transcript (on journal budget shown) goal fronts
-      (record { events = events; looks = looks; tried = tried; steps = steps; end = end })
+-- steps and this end.
+abbrev pub Gives : Journal → ℕ → Tree → List Tree → List ℕ → List Event → ℕ → RunEnd → Type 0
+Gives journal budget goal shown fronts events steps end = GivesIn (on journal budget shown) goal fronts events steps end
+
+-- a goal by engine 1 that begins when this journal is there, which so many words may have, and behind which there are these entries in the end
+abbrev pub changed : ℕ → Journal → List Entry → List Tree → Setting
+changed words before behind shown = record { engine = 1; journal = before ++ behind; words = words; updates = 100; start = length before; budget = 100; shown = list_of shown; ops = initial_operators }
+
+-- such a goal, which shows nothing, is one ball at these fronts
+abbrev pub Refuses : Journal → Tree → List ℕ → Fault → Indicator → Type 0
+Refuses before goal fronts fault at = GivesIn (changed 1000 before [] []) goal fronts [] 1 (Ball (fault_tree fault at))
 
 abbrev pub closed : List Tree → Event
 closed values = Answer (list_of values) false
@@ -224,6 +237,43 @@ abbrev pub members : Journal
 members =
     declared (codes "mem") 2 ∷ clause 0 (mem x (cell x (variable 1))) truth 2
     ∷ clause 0 (mem x (cell (variable 1) (variable 2))) (mem x (variable 2)) 3 ∷ []
+
+-- ---- updates
+
+-- an engine declares a dynamic procedure
+abbrev pub declares : ℕ → List ℕ → ℕ → Entry
+declares engine f n = record { by = engine; what = Declare (record { name = f; arity = n }) Dynamic }
+
+-- engine 1 adds a fact without variables at an end
+abbrev pub adds : End → ℕ → Tree → Entry
+adds end number head = record { by = 1; what = Add end number (record { head = head; body = truth; vars = 0 }) }
+
+abbrev pub k : ℕ → Tree
+k n = one (codes "k") (number n)
+
+-- :- dynamic(k/1). k(1).
+abbrev pub a_dynamic : Journal
+a_dynamic = declares 0 (codes "k") 1 ∷ fact 0 (k 1) ∷ []
+
+-- foo.
+abbrev pub a_static : Journal
+a_static = declared (codes "foo") 0 ∷ fact 0 (atom (codes "foo")) ∷ []
+
+abbrev pub asserta : Tree → Tree
+asserta t = one (codes "asserta") t
+
+abbrev pub assertz : Tree → Tree
+assertz t = one (codes "assertz") t
+
+-- their names and arities
+abbrev pub asserta_one : Indicator
+asserta_one = record { name = codes "asserta"; arity = 1 }
+
+abbrev pub assertz_one : Indicator
+assertz_one = record { name = codes "assertz"; arity = 1 }
+
+abbrev pub static : List ℕ → ℕ → Fault
+static f n = Permission (codes "modify") (codes "static_procedure") (indicator_tree (record { name = f; arity = n }))
 
 abbrev pub copied_number : ℕ → ℕ → List ℕ
 copied_number zero n = []
@@ -457,3 +507,24 @@ pub record HasRows : Type 0 where
   -- halt(X) and halt(a)
   pub halt_unbound : Alone (halts_with x) [] 1 (Ball (fault_tree Instantiation halt_one))
   pub halt_atom : Alone (halts_with a) [] 1 (Ball (fault_tree (OfType (codes "integer") a) halt_one))
+  -- ---- clauses that are added
+  -- assertz(k(1)): no procedure at the first front; it is declared at the second, and has its clause at the third
+  pub added : GivesIn (changed 1000 [] (declares 1 (codes "k") 1 ∷ adds Back 0 (k 1) ∷ []) []) (assertz (k 1)) (0 ∷ 1 ∷ 2 ∷ []) (closed [] ∷ []) 1 Exhausted
+  -- the declaration needs 17 words and the clause 13: the same within its words, with one word less for the clause, and for the declaration
+  pub added_exactly : GivesIn (changed 30 [] (declares 1 (codes "k") 1 ∷ adds Back 0 (k 1) ∷ []) []) (assertz (k 1)) (0 ∷ 1 ∷ 2 ∷ []) (closed [] ∷ []) 1 Exhausted
+  pub added_full : GivesIn (changed 29 [] (declares 1 (codes "k") 1 ∷ []) []) (assertz (k 1)) (0 ∷ 1 ∷ 1 ∷ []) [] 1 (Ball (fault_tree (Resource (codes "database")) assertz_one))
+  pub declared_full : GivesIn (changed 16 [] [] []) (assertz (k 1)) (0 ∷ 0 ∷ []) [] 1 (Ball (fault_tree (Resource (codes "database")) assertz_one))
+  -- another engine may declare it meanwhile
+  pub added_beside : GivesIn (changed 1000 [] (declares 2 (codes "k") 1 ∷ adds Back 0 (k 1) ∷ []) []) (assertz (k 1)) (0 ∷ 1 ∷ 2 ∷ []) (closed [] ∷ []) 1 Exhausted
+  -- assertz(foo) where foo is static, and asserta(true): no front for a name that is reserved
+  pub added_static : Refuses a_static (assertz (atom (codes "foo"))) (2 ∷ []) (static (codes "foo") 0) assertz_one
+  pub added_reserved : Refuses [] (asserta truth) [] (static (codes "true") 0) asserta_one
+  -- assertz((foo :- 4)) and assertz(X)
+  pub added_no_body : Refuses a_static (assertz (two (codes ":-") (atom (codes "foo")) (number 4))) [] (OfType (codes "callable") (number 4)) assertz_one
+  pub added_unbound : Refuses [] (assertz x) [] Instantiation assertz_one
+  -- assertz(k(1)), k(X): the call's front sees the clause
+  pub added_called : GivesIn (changed 1000 [] (declares 1 (codes "k") 1 ∷ adds Back 0 (k 1) ∷ []) (x ∷ [])) (both (assertz (k 1)) (one (codes "k") x)) (0 ∷ 1 ∷ 2 ∷ 2 ∷ []) (is_one ∷ []) 2 Exhausted
+  -- k(X), assertz(k(2)), fail over k(1): a call has the clauses of its front alone
+  pub added_meanwhile : GivesIn (changed 1000 a_dynamic (adds Back 0 (k 2) ∷ []) []) (both (one (codes "k") x) (both (assertz (k 2)) failure)) (2 ∷ 2 ∷ 3 ∷ []) [] 3 Exhausted
+  -- asserta(k(2)), k(X) over k(1): the new clause comes first
+  pub added_first : GivesIn (changed 1000 a_dynamic (adds Front 0 (k 2) ∷ []) (x ∷ [])) (both (asserta (k 2)) (one (codes "k") x)) (2 ∷ 3 ∷ 3 ∷ []) (opened (number 2 ∷ []) ∷ is_one ∷ []) 3 Exhausted

@@ -4,17 +4,17 @@ use Rattle.std.specs.List.{sum_by, AllZip}
 use Rattle.prolog_terms.specs.Tree.{Tree}
 use Rattle.prolog_terms.specs.Operators.{Table}
 use Rattle.prolog_terms.specs.Substitutions.{occurs}
-use Rattle.journal_base.specs.Journal.{Journal}
+use Rattle.journals.specs.Journal.{Journal}
 use Rattle.journal_base.specs.View.{View}
 use Rattle.journal_base.specs.Looks.{IsFair, TellsOnly, allowance, scans_of, kept_of, wants_of}
 use Rattle.journal_base.specs.declared.cause.How.{How}
 use Rattle.wam_machine.specs.declared.run.Goal.{Goal}
 use Rattle.wam_machine.specs.declared.run.Run.{Run}
 use Rattle.wam_machine.specs.declared.run.RunEnd.TheVariants.{Want}
-use Rattle.wam_machine.specs.Machine.{Setting, Look, Report, Transcript, shown_list}
+use Rattle.wam_machine.specs.Machine.{Setting, Look, Deed, looks_in, Report, Transcript, shown_list}
 
-abbrev pub report_of : Run → List Look → ℕ → Report
-report_of run looks tried = record { events = run.transcript; looks = looks; tried = tried; steps = run.steps; end = run.end }
+abbrev pub report_of : Run → List Deed → ℕ → Report
+report_of run deeds tried = record { events = run.transcript; deeds = deeds; tried = tried; steps = run.steps; end = run.end }
 
 -- how a look of a run was made is fair in the journal, and its causes are among those that may come
 pub record IsFairLook (causes : List ℕ) (J : Journal) (look : Look) (how : How) : Type 0 where
@@ -31,16 +31,16 @@ allowances J (l ∷ ls) (h ∷ hs) = allowance (take l.front J) l.call h + allow
 -- their order: each is fair, they are counted, and the clauses visited are no more than those that they allow, and no fewer than
 -- those that were tried.
 pub record IsTranscribed (x : Setting) (causes : List ℕ) (goal : Tree) (run : Run) : Type 0 where
-  pub looks : List Look
+  pub deeds : List Deed
   pub tried : ℕ
-  pub transcript : Transcript x goal run.fronts (report_of run looks tried)
+  pub transcript : Transcript x goal run.fronts (report_of run deeds tried)
   pub hows : List How
-  pub fair : AllZip (IsFairLook causes x.journal) looks hows
-  pub counted : run.tally.looks ≡ length looks
+  pub fair : AllZip (IsFairLook causes x.journal) (looks_in deeds) hows
+  pub counted : run.tally.looks ≡ length (looks_in deeds)
   pub scanned : run.tally.scans ≡ sum_by scans_of hows
   pub kept : run.tally.kept ≡ sum_by kept_of hows
   pub wanted : run.tally.wants ≡ sum_by wants_of hows
-  pub most : run.tally.visits ≤ allowances x.journal looks hows
+  pub most : run.tally.visits ≤ allowances x.journal (looks_in deeds) hows
   pub least : tried ≤ run.tally.visits
   -- a base without indexes builds none
   pub unbuilt : causes ≡ 0 ∷ [] → (run.tally.built ≡ 0) × (run.tally.indexes ≡ 0)
@@ -50,7 +50,7 @@ abbrev pub AreShown : Goal → Type 0
 AreShown goal = All (λ s. IsTrue (occurs s.var goal.term)) goal.shown
 
 abbrev pub setting_of : Table → View → ℕ → ℕ → Goal → Journal → Setting
-setting_of ops v start budget goal J = record { engine = v.number; journal = J; start = start; budget = budget; shown = shown_list goal.shown; ops = ops }
+setting_of ops v start budget goal J = record { engine = v.number; journal = J; words = v.words; updates = v.updates; start = start; budget = budget; shown = shown_list goal.shown; ops = ops }
 
 -- A run of a goal of the command line by a base's engine, from a front on, within a budget and under an operator table: unless memory was
 -- wanted it is the transcript over each journal that the base stands for.

@@ -1,20 +1,22 @@
 -- What the engine keeps, as a state of the machine, over a journal.
-use Rattle.std.specs.Prelude.{◌≡◌, ℕ, ◌+◌, ◌*◌, ◌≤◌, ◌⊎◌, List, [], ◌∷◌, ◌++◌, length, All, Option, Some, MatchOption, Bool, true, false, IsTrue}
+use Rattle.std.specs.Prelude.{◌≡◌, ℕ, ◌+◌, ◌*◌, ◌≤◌, ◌⊎◌, List, [], ◌∷◌, ◌++◌, length, All, Option, Some, MatchOption, map, take, Bool, true, false, IsTrue}
 use Rattle.std.specs.List.{sum_by, AllZip}
 use Rattle.prolog_terms.specs.Tree.{Tree, variable}
 use Rattle.prolog_terms.specs.Substitutions.{beyond}
 use Rattle.prolog_terms.specs.declared.shown.Shown.{Shown}
 use Rattle.prolog_terms.specs.declared.entry.Clause.{Clause}
-use Rattle.journal_base.specs.Calls.{Goal as Asked}
-use Rattle.journal_base.specs.Journal.{Journal, clause_named}
+use Rattle.journal_base.specs.Goals.{Goal as Asked}
+use Rattle.journals.specs.Journal.{Journal, clause_named}
 use Rattle.journal_base.specs.Looks.{most_raised, scans_of, kept_of, wants_of}
-use Rattle.journal_base.specs.View.{View, IsSound, Out, none_out, opened}
+use Rattle.prolog_terms.specs.declared.entry.Entry.{Entry}
+use Rattle.prolog_terms.specs.declared.entry.What.{What}
+use Rattle.journal_base.specs.View.{View, Grows, IsSound, Out, none_out, opened, entries_by}
 use Rattle.journal_base.specs.declared.cause.How.{How}
 use Rattle.journal_base.specs.declared.tally.Tally.{Tally}
 use Rattle.wam_machine.specs.Terms.{Left, Turn, OfCall, OfRight, OfRepeat, OfNot, OfCatch, OfFindall, Saved, Said, AreTerms, said, calls_in}
 use Rattle.wam_machine.specs.Cursors.{Begins, goal_of, part, clauses_left, visits_left, AreNamed}
 use Rattle.wam_machine.specs.Machine as spec
-use Rattle.wam_machine.specs.Machine.{State, Setting, Outcome, Goes, Ends, Look, Next, Do, Clauses, Right, Again, NotMark, CatchMark, FindallMark, Going, Failing, Raising, move, goal_move, trying, onwards, repeating, fails, gathered, made_all, Report, Runs, beginning, shown_list, newest}
+use Rattle.wam_machine.specs.Machine.{State, Setting, Outcome, Goes, Ends, Look, Deed, Updated, Next, Do, Clauses, Right, Again, NotMark, CatchMark, FindallMark, Going, Failing, Raising, move, goal_move, trying, onwards, repeating, fails, gathered, looks_in, made_in, Report, Runs, beginning, shown_list, newest}
 use Rattle.wam_machine.specs.Control.{control_of, first_body}
 use Rattle.wam_machine.specs.Runs.{IsFairLook, allowances}
 use Rattle.wam_machine.specs.declared.run.Event.{Event}
@@ -27,7 +29,7 @@ use Rattle.wam_machine.specs.declared.state.Machine.{Machine}
 use Rattle.wam_machine.specs.declared.state.Host.{Host}
 
 abbrev pub setting : {C : Type 0} → Host → Machine C → Journal → Setting
-setting h m j = record { engine = h.engine; journal = j; start = h.start; budget = h.budget; shown = (said m.terms).shown; ops = h.ops.now }
+setting h m j = record { engine = h.engine; journal = j; words = h.sizes.words; updates = h.sizes.updates; start = h.start; budget = h.budget; shown = (said m.terms).shown; ops = h.ops.now }
 
 -- ---- states
 
@@ -51,8 +53,8 @@ choice_of rest at j s = record { what = alternative_of rest at j s.turn; goals =
 abbrev pub stack_of : {C : Type 0} → (C → Asked → Journal → List ℕ) → (C → ℕ) → Journal → List (Saved C) → List spec.Choice
 stack_of rest at j ss = newest (choice_of rest at j) ss []
 
-abbrev pub state_from : List Next → List spec.Choice → (ℕ → Tree) → ℕ → spec.Mode → ℕ → List Event → ℕ → List Look → ℕ → List ℕ → State
-state_from goals stack bindings fresh mode steps events front looks tried fronts = record {
+abbrev pub state_from : List Next → List spec.Choice → (ℕ → Tree) → ℕ → spec.Mode → ℕ → List Event → ℕ → List Deed → ℕ → List ℕ → State
+state_from goals stack bindings fresh mode steps events front deeds tried fronts = record {
   mode = mode;
   goals = goals;
   stack = stack;
@@ -60,21 +62,21 @@ state_from goals stack bindings fresh mode steps events front looks tried fronts
   fresh = fresh;
   steps = steps;
   events = events;
-  looks = looks;
+  deeds = deeds;
   tried = tried;
   front = front;
   fronts = fronts;
 }
 
 -- what the terms say, as a state
-abbrev pub state_with : {C : Type 0} → (C → Asked → Journal → List ℕ) → (C → ℕ) → Journal → Said C → spec.Mode → ℕ → List Event → ℕ → List Look → ℕ → List ℕ → State
-state_with rest at j t mode steps events front looks tried fronts =
-    state_from t.goals (stack_of rest at j t.stack) t.bindings t.fresh mode steps events front looks tried fronts
+abbrev pub state_with : {C : Type 0} → (C → Asked → Journal → List ℕ) → (C → ℕ) → Journal → Said C → spec.Mode → ℕ → List Event → ℕ → List Deed → ℕ → List ℕ → State
+state_with rest at j t mode steps events front deeds tried fronts =
+    state_from t.goals (stack_of rest at j t.stack) t.bindings t.fresh mode steps events front deeds tried fronts
 
--- the machine's state after these looks and so many clauses tried, with these fronts still to come
-abbrev pub state_of : {C : Type 0} → (C → Asked → Journal → List ℕ) → (C → ℕ) → Journal → Machine C → List Look → ℕ → List ℕ → State
-state_of rest at j m looks tried fronts =
-    state_with rest at j (said m.terms) (mode_of m.mode) m.steps m.events.items m.front looks tried fronts
+-- the machine's state after this was done at the database and so many clauses were tried, with these fronts still to come
+abbrev pub state_of : {C : Type 0} → (C → Asked → Journal → List ℕ) → (C → ℕ) → Journal → Machine C → List Deed → ℕ → List ℕ → State
+state_of rest at j m deeds tried fronts =
+    state_with rest at j (said m.terms) (mode_of m.mode) m.steps m.events.items m.front deeds tried fronts
 
 -- the calls with clauses left
 abbrev pub calls : {C : Type 0} → Machine C → List (Left C)
@@ -100,11 +102,16 @@ all_visits may at j cs = sum_by (visits_left may at j) cs
 abbrev pub aheads : {C : Type 0} → (C → ℕ) → List (Left C) → ℕ
 aheads ahead cs = sum_by (λ c. ahead c.cursor) cs
 
--- what an engine keeps from move to move: its counts are within its steps
-pub record IsHeld (budget seen steps front calls : ℕ) (t : Tally) : Type 0 where
+-- all entries of its engine are below a front, in each journal
+abbrev pub AreBelow : View → ℕ → Type 0
+AreBelow v front = (j : Journal) → Begins v j → entries_by v.number (take front j) ≡ v.own
+
+-- what an engine keeps from move to move: its counts are within its steps, and its entries are below the front that was taken last
+pub record IsHeld (budget : ℕ) (v : View) (steps front calls : ℕ) (t : Tally) : Type 0 where
   pub within : steps ≤ budget
   pub few : calls ≤ t.looks
-  pub reached : front ≤ seen
+  pub reached : front ≤ v.seen
+  pub below : AreBelow v front
   pub looks : t.looks ≤ steps
   pub scans : t.scans ≤ t.looks
   pub kept : t.kept ≤ t.looks
@@ -123,14 +130,14 @@ pub record IsReady {C : Type 0} (v : View) (serves : C → Asked → Type 0) (gr
   pub sound : IsSound v
   pub terms : AreTerms m.terms
   pub kept : AreKept serves group out (calls m)
-  pub held : IsHeld budget v.seen m.steps m.front (length (calls m)) m.tally
+  pub held : IsHeld budget v m.steps m.front (length (calls m)) m.tally
   pub each : (j : Journal) → Begins v j → IsHeldIn rest may at j m.tally (calls m)
 
 -- what a move leaves: terms that are well kept, the same shown term, and counts within its steps
-pub record IsLeft {C : Type 0} (budget seen : ℕ) (old new : Machine C) : Type 0 where
+pub record IsLeft {C : Type 0} (budget : ℕ) (v : View) (old new : Machine C) : Type 0 where
   pub terms : AreTerms new.terms
   pub shown : (said new.terms).shown ≡ (said old.terms).shown
-  pub held : IsHeld budget seen new.steps new.front (length (calls new)) new.tally
+  pub held : IsHeld budget v new.steps new.front (length (calls new)) new.tally
 
 -- what was done between two moments, over a journal: looks, how each was made, and how many clauses were tried
 pub record Works {C : Type 0} (may : C → Asked → Journal → ℕ) (at : C → ℕ) (ahead : C → ℕ) (causes : List ℕ) (j : Journal)
@@ -146,27 +153,41 @@ pub record Works {C : Type 0} (may : C → Asked → Journal → ℕ) (at : C �
 
 -- ---- moves
 
--- a function of states goes on from the old machine to the new one, over a journal
-pub record GoesOn {C : Type 0} (rest : C → Asked → Journal → List ℕ) (may : C → Asked → Journal → ℕ) (at : C → ℕ) (ahead : C → ℕ) (causes : List ℕ) (f : State → Outcome) (j : Journal)
+-- a function of states goes on from the old machine to the new one, over a journal, and makes these entries
+pub record GoesOn {C : Type 0} (rest : C → Asked → Journal → List ℕ) (may : C → Asked → Journal → ℕ) (at : C → ℕ) (ahead : C → ℕ) (causes : List ℕ) (made : List Entry) (f : State → Outcome) (j : Journal)
     (old new : Machine C) : Type 0 where
   pub added : List ℕ
-  pub looked : List Look
+  pub deeds : List Deed
   pub hows : List How
   pub given : ℕ
+  pub made_is : made_in deeds ≡ made
   pub fronts_are : new.fronts.items ≡ old.fronts.items ++ added
-  pub goes : (looks : List Look) (tried : ℕ) (fronts : List ℕ) → f (state_of rest at j old looks tried (added ++ fronts)) ≡ Goes (state_of rest at j new (looks ++ looked) (tried + given) fronts)
-  pub works : Works may at ahead causes j old.tally new.tally (calls old) (calls new) looked hows given
+  pub goes : (before : List Deed) (tried : ℕ) (fronts : List ℕ) → f (state_of rest at j old before tried (added ++ fronts)) ≡ Goes (state_of rest at j new (before ++ deeds) (tried + given) fronts)
+  pub works : Works may at ahead causes j old.tally new.tally (calls old) (calls new) (looks_in deeds) hows given
   pub held : IsHeldIn rest may at j new.tally (calls new)
 
--- the function of states ends the run, if the journal has no other entries of the engine
-pub record ComesToEnd {C : Type 0} (rest : C → Asked → Journal → List ℕ) (at : C → ℕ) (f : State → Outcome) (x : Setting) (old new : Machine C) (end : RunEnd) : Type 0 where
+-- the function of states ends the run, and makes no entry
+pub record ComesToEnd {C : Type 0} (rest : C → Asked → Journal → List ℕ) (at : C → ℕ) (made : List Entry) (f : State → Outcome) (x : Setting) (old new : Machine C) (end : RunEnd) : Type 0 where
+  pub made_is : made ≡ []
   pub fronts_are : new.fronts.items ≡ old.fronts.items
   pub tally_is : new.tally ≡ old.tally
-  pub ends : IsTrue (made_all x) → (looks : List Look) (tried : ℕ) → f (state_of rest at x.journal old looks tried [])
-      ≡ Ends (record { events = new.events.items; looks = looks; tried = tried; steps = new.steps; end = end })
+  pub ends : (deeds : List Deed) (tried : ℕ) → f (state_of rest at x.journal old deeds tried [])
+      ≡ Ends (record { events = new.events.items; deeds = deeds; tried = tried; steps = new.steps; end = end })
 
-abbrev pub Does : {C : Type 0} → (C → Asked → Journal → List ℕ) → (C → Asked → Journal → ℕ) → (C → ℕ) → (C → ℕ) → List ℕ → (State → Outcome) → Setting → Machine C → Machine C → Option RunEnd → Type 0
-Does rest may at ahead causes f x old new o = MatchOption o (GoesOn rest may at ahead causes f x.journal old new) (λ end. ComesToEnd rest at f x old new end)
+abbrev pub Does : {C : Type 0} → (C → Asked → Journal → List ℕ) → (C → Asked → Journal → ℕ) → (C → ℕ) → (C → ℕ) → List ℕ → List Entry → (State → Outcome) → Setting → Machine C → Machine C → Option RunEnd → Type 0
+Does rest may at ahead causes made f x old new o = MatchOption o (GoesOn rest may at ahead causes made f x.journal old new) (λ end. ComesToEnd rest at made f x old new end)
+
+-- the base's engine made these entries, and nothing else became of what the base shows but that it grew
+pub record Makes (old new : View) (P : List Entry → Type 0) : Type 0 where
+  pub made : List Entry
+  pub own : new.own ≡ old.own ++ made
+  pub so : P made
+
+-- a host knows its base: its engine, and its sizes
+pub record IsHostOf (h : Host) (v : View) : Type 0 where
+  pub engine : h.engine ≡ v.number
+  pub words : h.sizes.words ≡ v.words
+  pub updates : h.sizes.updates ≡ v.updates
 
 -- a goal's move, its cut going back to a height
 abbrev pub performs_goal : Setting → Tree → ℕ → State → Outcome
@@ -179,8 +200,29 @@ pub record Acts {C : Type 0} (f : State → Outcome) (old new : Machine C) : Typ
   pub same : new ≡ record old { mode = new.mode; terms = new.terms; events = new.events }
   pub shown : (said new.terms).shown ≡ (said old.terms).shown
   pub calls_are : calls new ≡ calls old
-  pub goes : (rest : C → Asked → Journal → List ℕ) (at : C → ℕ) (j : Journal) (looks : List Look) (tried : ℕ) (fronts : List ℕ)
-      → f (state_of rest at j old looks tried fronts) ≡ Goes (state_of rest at j new looks tried fronts)
+  pub goes : (rest : C → Asked → Journal → List ℕ) (at : C → ℕ) (j : Journal) (deeds : List Deed) (tried : ℕ) (fronts : List ℕ)
+      → f (state_of rest at j old deeds tried fronts) ≡ Goes (state_of rest at j new deeds tried fronts)
+
+-- ---- updates
+
+-- a front is seen, and all entries of the base's engine are below it
+pub record IsFronted (v : View) (front : ℕ) : Type 0 where
+  pub reached : front ≤ v.seen
+  pub below : AreBelow v front
+
+-- nothing was done but to the mode and the fronts
+abbrev pub HasOnlyAsked : {C : Type 0} → Machine C → Machine C → Type 0
+HasOnlyAsked old new = new ≡ record old { mode = new.mode; front = new.front; fronts = new.fronts }
+
+-- A function of states takes the next fronts and goes on, with the entries that the base's engine made meanwhile.
+pub record Asks {C : Type 0} (v w : View) (f : Journal → State → Outcome) (old new : Machine C) : Type 0 where
+  pub added : List ℕ
+  pub made : List Entry
+  pub own : w.own ≡ v.own ++ made
+  pub front : IsFronted w new.front
+  pub fronts_are : new.fronts.items ≡ old.fronts.items ++ added
+  pub goes : (j : Journal) → Begins w j → (rest : C → Asked → Journal → List ℕ) (at : C → ℕ) (deeds : List Deed) (tried : ℕ) (fronts : List ℕ)
+      → f j (state_of rest at j old deeds tried (added ++ fronts)) ≡ Goes (state_of rest at j new (deeds ++ map Updated made) tried fronts)
 
 -- a ball is raised
 abbrev pub IsRaising : Mode → Type 0
@@ -195,7 +237,7 @@ settled_mode mode false = IsFailing
 -- the first clause that is left of a call is tried, over a journal
 pub record Tries {C : Type 0} (rest : C → Asked → Journal → List ℕ) (may : C → Asked → Journal → ℕ) (at : C → ℕ) (ahead : C → ℕ) (j : Journal) (c : Left C) (old new : Machine C) : Type 0 where
   pub given : ℕ
-  pub tried : (looks : List Look) (tried : ℕ) (fronts : List ℕ) → trying c.goal (clauses_left rest at j c) (state_of rest at j old looks tried fronts) ≡ Goes (state_of rest at j new looks (tried + given) fronts)
+  pub tried : (deeds : List Deed) (tried : ℕ) (fronts : List ℕ) → trying c.goal (clauses_left rest at j c) (state_of rest at j old deeds tried fronts) ≡ Goes (state_of rest at j new deeds (tried + given) fronts)
   pub most : new.tally.visits + all_visits may at j (calls new) ≤ old.tally.visits + all_visits may at j ((calls old) ++ c ∷ [])
   pub least : old.tally.visits + given + aheads ahead (calls new) ≤ new.tally.visits + aheads ahead ((calls old) ++ c ∷ [])
   pub named : All (AreNamed rest at j) (calls new)
@@ -221,7 +263,7 @@ turn_calls (OfFindall l f) = []
 -- the machine goes on with a turn, over a journal
 pub record Resumes {C : Type 0} (rest : C → Asked → Journal → List ℕ) (may : C → Asked → Journal → ℕ) (at : C → ℕ) (ahead : C → ℕ) (j : Journal) (turn : Turn C) (old new : Machine C) : Type 0 where
   pub given : ℕ
-  pub resumed : (looks : List Look) (tried : ℕ) (fronts : List ℕ) → resuming (alternative_of rest at j turn) (state_of rest at j old looks tried fronts) ≡ Goes (state_of rest at j new looks (tried + given) fronts)
+  pub resumed : (deeds : List Deed) (tried : ℕ) (fronts : List ℕ) → resuming (alternative_of rest at j turn) (state_of rest at j old deeds tried fronts) ≡ Goes (state_of rest at j new deeds (tried + given) fronts)
   pub most : new.tally.visits + all_visits may at j (calls new) ≤ old.tally.visits + all_visits may at j ((calls old) ++ turn_calls turn)
   pub least : old.tally.visits + given + aheads ahead (calls new) ≤ new.tally.visits + aheads ahead ((calls old) ++ turn_calls turn)
   pub named : All (AreNamed rest at j) (calls new)
@@ -230,7 +272,7 @@ pub record Resumes {C : Type 0} (rest : C → Asked → Journal → List ℕ) (m
 pub record Attempts {C : Type 0} (rest : C → Asked → Journal → List ℕ) (may : C → Asked → Journal → ℕ) (at : C → ℕ) (j : Journal) (name : ℕ) (c : Left C) (old new : Machine C) : Type 0 where
   pub clause : Clause
   pub clause_is : clause_named (part at j c) name ≡ Some clause
-  pub tried : (looks : List Look) (tried : ℕ) (fronts : List ℕ) → trying c.goal (clause ∷ clauses_left rest at j c) (state_of rest at j old looks tried fronts) ≡ Goes (state_of rest at j new looks (tried + 1) fronts)
+  pub tried : (deeds : List Deed) (tried : ℕ) (fronts : List ℕ) → trying c.goal (clause ∷ clauses_left rest at j c) (state_of rest at j old deeds tried fronts) ≡ Goes (state_of rest at j new deeds (tried + 1) fronts)
 
 -- the stack is as it was, or the call lies on it
 abbrev pub IsPushed : {C : Type 0} → Left C → List (Left C) → List (Left C) → Type 0
@@ -272,10 +314,11 @@ run_of engine shown m end =
     record { engine = engine; line = 0; shown = shown; transcript = m.events.items; fronts = m.fronts.items; tally = m.tally; steps = m.steps; end = end }
 
 -- Whichever fronts come, a run from the machine's state on is the rest of a run of the goal from the beginning, which took the
--- machine's fronts.
-pub record IsLed {C : Type 0} (rest : C → Asked → Journal → List ℕ) (may : C → Asked → Journal → ℕ) (at : C → ℕ) (ahead : C → ℕ) (causes : List ℕ) (x : Setting) (goal : Tree) (m : Machine C) : Type 0 where
-  pub looks : List Look
+-- machine's fronts and made these entries.
+pub record IsLed {C : Type 0} (rest : C → Asked → Journal → List ℕ) (may : C → Asked → Journal → ℕ) (at : C → ℕ) (ahead : C → ℕ) (causes : List ℕ) (made : List Entry) (x : Setting) (goal : Tree) (m : Machine C) : Type 0 where
+  pub deeds : List Deed
   pub hows : List How
   pub tried : ℕ
-  pub leads : (fronts : List ℕ) (r : Report) → Runs x (state_of rest at x.journal m looks tried fronts) r → Runs x (beginning x goal (m.fronts.items ++ fronts)) r
-  pub works : Works may at ahead causes x.journal no_tally m.tally [] (calls m) looks hows tried
+  pub made_is : made_in deeds ≡ made
+  pub leads : (fronts : List ℕ) (r : Report) → Runs x (state_of rest at x.journal m deeds tried fronts) r → Runs x (beginning x goal (m.fronts.items ++ fronts)) r
+  pub works : Works may at ahead causes x.journal no_tally m.tally [] (calls m) (looks_in deeds) hows tried

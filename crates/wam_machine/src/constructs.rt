@@ -62,6 +62,7 @@ pub(crate) fn construct<C>(
         Control::Throw(ball) => throw(machine, alloc, ball),
         Control::Halt => unreachable!(),
         Control::HaltWith(_) => unreachable!(),
+        Control::Database(_) => unreachable!(),
         Control::Builtin(row, args) => builtin(machine, alloc, ops, row, args.as_slice()),
         Control::Cut => unreachable!(),
         Control::Both(_, _) => unreachable!(),

@@ -8,10 +8,17 @@ ghost use Rattle.wam_machine.specs.Terms.{AreTerms, IsGoal, IsBuilt, built};
 ghost use Rattle.wam_machine.specs.Goals.{IsControl, IsFound, IsFoundNow, IsArrow, IsPlain};
 
 use crate::terms::Terms;
-use prolog_terms::{Indicator, Name, Want};
+use prolog_terms::{End, Indicator, Name, Want};
 use std::alloc::Global;
 use term_builtins::find_builtin;
 use term_store::{Cell, View};
+
+/// What a goal asks of the database, other than the call of a procedure.
+#[derive(Clone, Copy)]
+pub(crate) enum Access {
+    /// A clause is added at an end.
+    Assert(End, Cell),
+}
 
 /// What a goal is: one that the machine does itself, or the call of a procedure.
 #[derive(Drop)]
@@ -44,6 +51,8 @@ pub(crate) enum Control {
     Halt,
     /// The run is ended with a number.
     HaltWith(Cell),
+    /// The database is asked for something.
+    Database(Access),
     /// A builtin on terms, by its place in the table, with its arguments.
     Builtin(usize, Vec<Cell>),
     /// Any other goal, by its name and arity.
@@ -133,6 +142,12 @@ fn one_control(alloc: Global, name: &[u8], only: Cell) -> Result<Control, Want>
     }
     if name == b"halt".as_slice() {
         return Ok(Control::HaltWith(only));
+    }
+    if name == b"asserta".as_slice() {
+        return Ok(Control::Database(Access::Assert(End::Front, only)));
+    }
+    if name == b"assertz".as_slice() {
+        return Ok(Control::Database(Access::Assert(End::Back, only)));
     }
     plain(alloc, name, &[only])
 }

@@ -1,8 +1,9 @@
 // Calls over a base: their clauses, one after another.
 ghost use Rattle.std.specs.Prelude.{◌≡◌, ℕ, ◌+◌, ◌^◌, ◌<◌, ◌≤◌, length, take, IfOk, Some, IsSome};
-ghost use Rattle.journal_base.specs.Keys.{keys as keys_in};
-ghost use Rattle.journal_base.specs.Calls.{AreKeysOf, Goal, goal_keys};
-ghost use Rattle.journal_base.specs.Journal.{Journal, procedures, clause_named};
+ghost use Rattle.call_patterns.specs.Keys.{keys as keys_in};
+ghost use Rattle.call_patterns.specs.Calls.{AreKeysOf, goal_keys};
+ghost use Rattle.journal_base.specs.Goals.{Goal};
+ghost use Rattle.journals.specs.Journal.{Journal, procedures, clause_named};
 ghost use Rattle.journal_base.specs.Looks.{CountsLook, CountsVisits, HasRoom, given};
 ghost use Rattle.journal_base.specs.View.{Looks, InSeen, Gives, has_more, opened};
 ghost use Rattle.prolog_terms.specs.Clauses.{IsClause};
@@ -10,7 +11,8 @@ ghost use Rattle.wam_machine.specs.Terms.{Left, built, call_now};
 ghost use Rattle.wam_machine.specs.Cursors.{Begins, goal_of, names_left, visits_left, IsOpened};
 
 use crate::terms::{Call, Opened, Terms};
-use journal_base::{Base, Keys, Look, Tally};
+use call_patterns::Keys;
+use journal_base::{Base, Look, Tally};
 use prolog_terms::{Clause, Want};
 use term_store::Cell;
 

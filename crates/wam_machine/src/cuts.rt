@@ -1,7 +1,7 @@
 // Cuts: moments that may be gone back to are taken away.
-ghost use Rattle.std.specs.Prelude.{◌≡◌, ◌==◌, ◌-◌, ◌<◌, if◌then◌else◌, take};
-ghost use Rattle.journal_base.specs.Calls.{Goal};
-ghost use Rattle.journal_base.specs.Journal.{Journal};
+ghost use Rattle.std.specs.Prelude.{◌≡◌, ◌==◌, ◌-◌, ◌<◌, [], if◌then◌else◌, take};
+ghost use Rattle.journal_base.specs.Goals.{Goal};
+ghost use Rattle.journals.specs.Journal.{Journal};
 ghost use Rattle.journal_base.specs.View.{IsSound, Looks, opened};
 ghost use Rattle.wam_machine.specs.Cursors.{Begins};
 ghost use Rattle.wam_machine.specs.Machine.{Goes, cut_back as cut_back_to, leaving_catch, fails};
@@ -58,8 +58,8 @@ pub(crate) fn cut_stack<B: Base>(
     ensures seen { Looks (B.view base.old) (B.view base.new) }
     ensures becomes { B.becomes base.old base.new }
     ensures kept { AreKept (B.serves base.new) B.group (B.out base.new) (calls machine.new) }
-    ensures left { IsLeft host.now.budget (B.view base.new).seen machine.old machine.new }
-    ensures goes { (j : Journal) → Begins (B.view base.new) j → GoesOn B.rest B.may_visit B.looked_at B.ahead (B.view base.new).causes (λ s. Goes (cut_back_to height s)) j machine.old machine.new }
+    ensures left { IsLeft host.now.budget (B.view base.new) machine.old machine.new }
+    ensures goes { (j : Journal) → Begins (B.view base.new) j → GoesOn B.rest B.may_visit B.looked_at B.ahead (B.view base.new).causes [] (λ s. Goes (cut_back_to height s)) j machine.old machine.new }
 {
     let _host = host;
     cut_back(base, &mut machine.terms, height);
@@ -76,8 +76,8 @@ pub(crate) fn end_not<B: Base>(
     ensures seen { Looks (B.view base.old) (B.view base.new) }
     ensures becomes { B.becomes base.old base.new }
     ensures kept { AreKept (B.serves base.new) B.group (B.out base.new) (calls machine.new) }
-    ensures left { IsLeft host.now.budget (B.view base.new).seen machine.old machine.new }
-    ensures goes { (j : Journal) → Begins (B.view base.new) j → GoesOn B.rest B.may_visit B.looked_at B.ahead (B.view base.new).causes (λ s. fails (cut_back_to height s)) j machine.old machine.new }
+    ensures left { IsLeft host.now.budget (B.view base.new) machine.old machine.new }
+    ensures goes { (j : Journal) → Begins (B.view base.new) j → GoesOn B.rest B.may_visit B.looked_at B.ahead (B.view base.new).causes [] (λ s. fails (cut_back_to height s)) j machine.old machine.new }
 {
     cut_stack(base, machine, host, height);
     machine.mode = Mode::Failing;
@@ -94,8 +94,8 @@ pub(crate) fn leave_catch<B: Base>(
     ensures seen { Looks (B.view base.old) (B.view base.new) }
     ensures becomes { B.becomes base.old base.new }
     ensures kept { AreKept (B.serves base.new) B.group (B.out base.new) (calls machine.new) }
-    ensures left { IsLeft host.now.budget (B.view base.new).seen machine.old machine.new }
-    ensures goes { (j : Journal) → Begins (B.view base.new) j → GoesOn B.rest B.may_visit B.looked_at B.ahead (B.view base.new).causes (λ s. Goes (leaving_catch height s)) j machine.old machine.new }
+    ensures left { IsLeft host.now.budget (B.view base.new) machine.old machine.new }
+    ensures goes { (j : Journal) → Begins (B.view base.new) j → GoesOn B.rest B.may_visit B.looked_at B.ahead (B.view base.new).causes [] (λ s. Goes (leaving_catch height s)) j machine.old machine.new }
 {
     let kept = height_left(height_now(&machine.terms), height);
     cut_stack(base, machine, host, kept);

@@ -1,6 +1,6 @@
 // The engine.
 ghost use Rattle.std.specs.Prelude.{◌≡◌, ◌≤◌, ◌^◌, IfOk, IfErr};
-ghost use Rattle.journal_base.specs.View.{Looks, none_out};
+ghost use Rattle.journal_base.specs.View.{Grows, none_out};
 ghost use Rattle.wam_machine.specs.Runs.{IsRunOf, AreShown};
 
 use crate::run::{Events, Fronts, Goal, Run, RunEnd};
@@ -29,13 +29,13 @@ impl<B: Base> Engine<B> {
     }
 
     /// Runs a goal, of so many steps at most, and passes the gate before each look. No cursor of the base may be out, and
-    /// none is out afterwards. Its goals write under the engine's operators. The run adds no entry of its engine to the journal.
+    /// none is out afterwards. Its goals write under the engine's operators. What the run adds to the journal is its transcript's.
     pub fn solve<R: Wait, G: Gate>(&mut self, rt: &R, goal: &Goal, budget: u64, gate: &G) -> Run
         requires shown { AreShown goal.now }
         requires budget { (1 ≤ budget) × (budget ≤ 10 ^ 11) }
         requires out { B.out self.old.base ≡ none_out }
         ensures run { IsRunOf self.old.ops (B.view self.new.base) (B.view self.old.base).seen budget goal.now result }
-        ensures seen { Looks (B.view self.old.base) (B.view self.new.base) }
+        ensures seen { Grows (B.view self.old.base) (B.view self.new.base) }
         ensures becomes { B.becomes self.old.base self.new.base }
         ensures out { B.out self.new.base ≡ none_out }
         ensures ops { self.new.ops ≡ self.old.ops }

@@ -1,12 +1,16 @@
 // The balls of errors that goals raise.
-ghost use Rattle.std.specs.Prelude.{◌≡◌, suc, ◌<◌, IfOk, codes};
-ghost use Rattle.prolog_terms.specs.Faults.{fault_tree};
+ghost use Rattle.std.specs.Prelude.{◌≡◌, suc, ◌<◌, ◌++◌, ◌∷◌, [], IfOk, OnOk, codes};
+ghost use Rattle.prolog_terms.specs.Flat.{nodes as nodes_of};
+ghost use Rattle.prolog_terms.specs.declared.node.Node.TheVariants.{Atom, Functor};
+ghost use Rattle.prolog_terms.specs.Faults.{fault_tree, indicator_tree};
 ghost use Rattle.prolog_terms.specs.declared.fault.Fault.TheVariants.{Existence, Instantiation, Representation};
-ghost use Rattle.wam_machine.specs.Machine.{not_callable, not_integer, halt_with};
+ghost use Rattle.wam_machine.specs.Machine.{not_callable, not_integer, halt_with, assert_at, no_change, no_room};
 ghost use Rattle.wam_machine.specs.Terms.{AreTerms, IsBuilt, built};
 
 use crate::terms::Terms;
-use prolog_terms::{Fault, Indicator, Name, Term, Want, copy_indicator, fault_term};
+use prolog_terms::{
+    End, Fault, Indicator, Name, Node, Term, Want, Whole, copy_indicator, fault_term,
+};
 use std::alloc::Global;
 use term_store::Cell;
 
@@ -121,4 +125,70 @@ pub(crate) fn no_integer<C>(alloc: Global, terms: &Terms<C>, code: Cell) -> Resu
     let integer = Name::of(alloc, b"integer")?;
     let halt = halt_indicator(alloc)?;
     fault_term(alloc, &Fault::OfType(integer, culprit), &halt)
+}
+
+/// The name and arity of the call that adds a clause at an end.
+pub(crate) fn assert_indicator(alloc: Global, end: End) -> Result<Indicator, Want>
+    ensures { IfOk result (λ i. i ≡ assert_at end) }
+{
+    let name = match end {
+        End::Front => b"asserta".as_slice(),
+        End::Back => b"assertz".as_slice(),
+    };
+    Ok(Indicator {
+        name: Name::of(alloc, name)?,
+        arity: 1,
+    })
+}
+
+fn put_slash(nodes: &mut Vec<Node>, alloc: Global) -> Result<(), Want>
+    ensures { OnOk result (nodes.new.items ≡ nodes.old.items ++ Functor (codes "/") 2 ∷ []) }
+{
+    nodes.push(Node::Functor(Name::of(alloc, b"/")?, 2))?;
+    Ok(())
+}
+
+fn put_name(nodes: &mut Vec<Node>, name: &Name) -> Result<(), Want>
+    ensures { OnOk result (nodes.new.items ≡ nodes.old.items ++ Atom name.now ∷ []) }
+{
+    nodes.push(Node::Atom(name.clone()?))?;
+    Ok(())
+}
+
+fn put_indicator(nodes: &mut Vec<Node>, alloc: Global, indicator: &Indicator) -> Result<(), Want>
+    ensures { OnOk result (nodes.new.items ≡ nodes.old.items ++ nodes_of (indicator_tree indicator.now)) }
+{
+    put_slash(nodes, alloc)?;
+    put_name(nodes, &indicator.name)?;
+    nodes.push(Node::Int(Whole::from(indicator.arity)))?;
+    Ok(())
+}
+
+/// The term of a name and arity.
+fn indicator_term(alloc: Global, indicator: &Indicator) -> Result<Term, Want>
+    ensures { IfOk result (λ t. t ≡ indicator_tree indicator.now) }
+{
+    let mut nodes = Vec::new(alloc);
+    put_indicator(&mut nodes, alloc, indicator)?;
+    Ok(Term::from_prefix(nodes))
+}
+
+/// The error that no goal may add a clause at an end to the procedure of this name and arity.
+pub(crate) fn unchangeable(alloc: Global, indicator: &Indicator, end: End) -> Result<Term, Want>
+    ensures { IfOk result (λ t. t ≡ fault_tree (no_change indicator.now) (assert_at end)) }
+{
+    let at = assert_indicator(alloc, end)?;
+    let action = Name::of(alloc, b"modify")?;
+    let kind = Name::of(alloc, b"static_procedure")?;
+    let culprit = indicator_term(alloc, indicator)?;
+    fault_term(alloc, &Fault::Permission(action, kind, culprit), &at)
+}
+
+/// The error that the database has no room for a clause at an end.
+pub(crate) fn without_room(alloc: Global, end: End) -> Result<Term, Want>
+    ensures { IfOk result (λ t. t ≡ fault_tree no_room (assert_at end)) }
+{
+    let at = assert_indicator(alloc, end)?;
+    let fault = Fault::Resource(Name::of(alloc, b"database")?);
+    fault_term(alloc, &fault, &at)
 }

@@ -1,13 +1,13 @@
 // The keys of a goal, as it stands.
 ghost use Rattle.std.specs.Prelude.{◌≡◌, ◌<◌, length, option_map, slice_get, IfSome};
-ghost use Rattle.journal_base.specs.Keys.{keys as keys_in, key as key_in, argument as argument_in, arguments as arguments_in};
-ghost use Rattle.journal_base.specs.Calls.{AreKeysOf, IsKeyOf, key_of, goal_keys};
-ghost use Rattle.journal_base.specs.Filling.{IsKeyAt};
+ghost use Rattle.call_patterns.specs.Keys.{keys as keys_in, key as key_in, argument as argument_in, arguments as arguments_in};
+ghost use Rattle.call_patterns.specs.Calls.{AreKeysOf, IsKeyOf, key_of, goal_keys};
+ghost use Rattle.call_patterns.specs.Filling.{IsKeyAt};
 ghost use Rattle.term_store.specs.Terms.{HasTerm, term_of};
 ghost use Rattle.wam_machine.specs.Terms.{AreTerms, IsBuilt, built};
 
 use crate::terms::Terms;
-use journal_base::{Key, Keys};
+use call_patterns::{Key, Keys};
 use term_store::{Cell, View};
 
 /// How many positions a term has.

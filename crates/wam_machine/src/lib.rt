@@ -10,6 +10,7 @@ mod constructs;
 mod control;
 mod cursor;
 mod cuts;
+mod database;
 mod engine;
 mod enter;
 mod errors;
@@ -20,6 +21,7 @@ mod law;
 mod machine;
 mod procedures;
 mod raising;
+mod reserved;
 mod run;
 mod running;
 mod shown;
@@ -27,5 +29,9 @@ mod state;
 mod terms;
 
 pub use engine::Engine;
-pub use law::{bodies_by_walk, catches_have_marks, each_goal_runs, engine_laws, rows, transcript};
+pub use law::{
+    bodies_by_walk, catches_have_marks, each_goal_runs, engine_laws, findalls_have_marks, rows,
+    transcript, what_is_defined_is_called,
+};
+pub use reserved::is_reserved;
 pub use run::{Event, Events, Fronts, Goal, Run, RunEnd};

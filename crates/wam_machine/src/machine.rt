@@ -2,19 +2,20 @@
 ghost use Rattle.std.specs.Prelude.{◌≡◌, ◌≤◌, ◌^◌, ◌+◌, ◌++◌, ◌∷◌, [], All, IfOk, OnOk, OnErr, MatchOption, length, true, false};
 ghost use Rattle.prolog_terms.specs.Tree.{Tree};
 ghost use Rattle.prolog_terms.specs.Substitutions.{substituted, numbered};
-ghost use Rattle.journal_base.specs.Journal.{Journal};
+ghost use Rattle.journals.specs.Journal.{Journal};
 ghost use Rattle.journal_base.specs.Looks.{HasRoom};
-ghost use Rattle.journal_base.specs.View.{IsSound, Looks};
+ghost use Rattle.journal_base.specs.View.{IsSound, Grows, Looks};
 ghost use Rattle.wam_machine.specs.Machine.{Setting, Do, move};
 ghost use Rattle.wam_machine.specs.Terms.{AreTerms, IsGoal, IsTurn, HasNewest, said, built, turn_now, is_open, is_any_open};
 ghost use Rattle.wam_machine.specs.Goals.{IsControl, IsSimple};
 ghost use Rattle.wam_machine.specs.Cursors.{Begins, AreNamed};
-ghost use Rattle.wam_machine.specs.View.{setting, calls, turn_calls, Acts, IsReady, IsLeft, AreKept, Does, Resumes, KeepsCounts, IsRaising, performs_goal};
+ghost use Rattle.wam_machine.specs.View.{setting, calls, turn_calls, Acts, IsReady, IsLeft, AreKept, Does, Makes, IsHostOf, Resumes, KeepsCounts, IsRaising, performs_goal};
 
 use crate::choices::{Newest, any_open, go_back, see_newest};
 use crate::constructs::{construct, repeat};
 use crate::control::{Control, goal_control};
 use crate::cuts::{cut_stack, end_not, leave_catch};
+use crate::database::access;
 use crate::findall::{finish, keep_found};
 use crate::goals::{push_next, take_next};
 use crate::procedures::{call, take};
@@ -37,13 +38,14 @@ pub(crate) fn advance<B: Base, R: Wait, G: Gate>(
     rt: &R,
     gate: &G,
 ) -> Result<Option<RunEnd>, Want>
+    requires host { IsHostOf host.now (B.view base.old) }
     requires ready { IsReady (B.view base.old) (B.serves base.old) B.group (B.out base.old) B.rest B.may_visit B.looked_at host.now.budget machine.old }
     requires budget { host.now.budget ≤ 10 ^ 11 }
-    ensures seen { Looks (B.view base.old) (B.view base.new) }
+    ensures seen { Grows (B.view base.old) (B.view base.new) }
     ensures becomes { B.becomes base.old base.new }
     ensures kept { AreKept (B.serves base.new) B.group (B.out base.new) (calls machine.new) }
-    ensures left { OnOk result (IsLeft host.now.budget (B.view base.new).seen machine.old machine.new) }
-    ensures moves { IfOk result (λ o. (j : Journal) → Begins (B.view base.new) j → Does B.rest B.may_visit B.looked_at B.ahead (B.view base.new).causes (move (setting host.now machine.old j)) (setting host.now machine.old j) machine.old machine.new o) }
+    ensures left { OnOk result (IsLeft host.now.budget (B.view base.new) machine.old machine.new) }
+    ensures moves { IfOk result (λ o. Makes (B.view base.old) (B.view base.new) (λ made. (j : Journal) → Begins (B.view base.new) j → Does B.rest B.may_visit B.looked_at B.ahead (B.view base.new).causes made (move (setting host.now machine.old j)) (setting host.now machine.old j) machine.old machine.new o)) }
 {
     match &machine.mode {
         Mode::Going => go_on(base, machine, host, rt, gate),
@@ -61,13 +63,14 @@ fn go_on<B: Base, R: Wait, G: Gate>(
     gate: &G,
 ) -> Result<Option<RunEnd>, Want>
     requires going { machine.old.mode ≡ Mode.Going }
+    requires host { IsHostOf host.now (B.view base.old) }
     requires ready { IsReady (B.view base.old) (B.serves base.old) B.group (B.out base.old) B.rest B.may_visit B.looked_at host.now.budget machine.old }
     requires budget { host.now.budget ≤ 10 ^ 11 }
-    ensures seen { Looks (B.view base.old) (B.view base.new) }
+    ensures seen { Grows (B.view base.old) (B.view base.new) }
     ensures becomes { B.becomes base.old base.new }
     ensures kept { AreKept (B.serves base.new) B.group (B.out base.new) (calls machine.new) }
-    ensures left { OnOk result (IsLeft host.now.budget (B.view base.new).seen machine.old machine.new) }
-    ensures moves { IfOk result (λ o. (j : Journal) → Begins (B.view base.new) j → Does B.rest B.may_visit B.looked_at B.ahead (B.view base.new).causes (move (setting host.now machine.old j)) (setting host.now machine.old j) machine.old machine.new o) }
+    ensures left { OnOk result (IsLeft host.now.budget (B.view base.new) machine.old machine.new) }
+    ensures moves { IfOk result (λ o. Makes (B.view base.old) (B.view base.new) (λ made. (j : Journal) → Begins (B.view base.new) j → Does B.rest B.may_visit B.looked_at B.ahead (B.view base.new).causes made (move (setting host.now machine.old j)) (setting host.now machine.old j) machine.old machine.new o)) }
 {
     match take_next(&mut machine.terms) {
         None => {
@@ -122,13 +125,14 @@ fn do_goal<B: Base, R: Wait, G: Gate>(
 ) -> Result<Option<RunEnd>, Want>
     requires goal { IsGoal machine.old.terms goal }
     requires going { machine.old.mode ≡ Mode.Going }
+    requires host { IsHostOf host.now (B.view base.old) }
     requires ready { IsReady (B.view base.old) (B.serves base.old) B.group (B.out base.old) B.rest B.may_visit B.looked_at host.now.budget machine.old }
     requires budget { host.now.budget ≤ 10 ^ 11 }
-    ensures seen { Looks (B.view base.old) (B.view base.new) }
+    ensures seen { Grows (B.view base.old) (B.view base.new) }
     ensures becomes { B.becomes base.old base.new }
     ensures kept { AreKept (B.serves base.new) B.group (B.out base.new) (calls machine.new) }
-    ensures left { OnOk result (IsLeft host.now.budget (B.view base.new).seen machine.old machine.new) }
-    ensures moves { IfOk result (λ o. (j : Journal) → Begins (B.view base.new) j → Does B.rest B.may_visit B.looked_at B.ahead (B.view base.new).causes (performs_goal (setting host.now machine.old j) (built machine.old.terms goal) cut) (setting host.now machine.old j) machine.old machine.new o) }
+    ensures left { OnOk result (IsLeft host.now.budget (B.view base.new) machine.old machine.new) }
+    ensures moves { IfOk result (λ o. Makes (B.view base.old) (B.view base.new) (λ made. (j : Journal) → Begins (B.view base.new) j → Does B.rest B.may_visit B.looked_at B.ahead (B.view base.new).causes made (performs_goal (setting host.now machine.old j) (built machine.old.terms goal) cut) (setting host.now machine.old j) machine.old machine.new o)) }
 {
     let control = goal_control(host.alloc, &machine.terms, goal)?;
     if let Control::Both(left, right) = control {
@@ -169,13 +173,14 @@ fn perform<B: Base, R: Wait, G: Gate>(
     requires control { IsControl machine.old.terms (built machine.old.terms goal) control }
     requires simple { IsSimple control }
     requires going { machine.old.mode ≡ Mode.Going }
+    requires host { IsHostOf host.now (B.view base.old) }
     requires ready { IsReady (B.view base.old) (B.serves base.old) B.group (B.out base.old) B.rest B.may_visit B.looked_at host.now.budget machine.old }
     requires budget { host.now.budget ≤ 10 ^ 11 }
-    ensures seen { Looks (B.view base.old) (B.view base.new) }
+    ensures seen { Grows (B.view base.old) (B.view base.new) }
     ensures becomes { B.becomes base.old base.new }
     ensures kept { AreKept (B.serves base.new) B.group (B.out base.new) (calls machine.new) }
-    ensures left { OnOk result (IsLeft host.now.budget (B.view base.new).seen machine.old machine.new) }
-    ensures moves { IfOk result (λ o. (j : Journal) → Begins (B.view base.new) j → Does B.rest B.may_visit B.looked_at B.ahead (B.view base.new).causes (performs_goal (setting host.now machine.old j) (built machine.old.terms goal) cut) (setting host.now machine.old j) machine.old machine.new o) }
+    ensures left { OnOk result (IsLeft host.now.budget (B.view base.new) machine.old machine.new) }
+    ensures moves { IfOk result (λ o. Makes (B.view base.old) (B.view base.new) (λ made. (j : Journal) → Begins (B.view base.new) j → Does B.rest B.may_visit B.looked_at B.ahead (B.view base.new).causes made (performs_goal (setting host.now machine.old j) (built machine.old.terms goal) cut) (setting host.now machine.old j) machine.old machine.new o)) }
 {
     if machine.steps == host.budget {
         return Ok(Some(RunEnd::Spent(machine.steps)));
@@ -188,6 +193,10 @@ fn perform<B: Base, R: Wait, G: Gate>(
         }
         Control::User(indicator) => {
             call(base, machine, host, goal, &indicator, rt, gate)?;
+            Ok(None)
+        }
+        Control::Database(asked) => {
+            access(base, machine, host, asked, rt)?;
             Ok(None)
         }
         Control::Halt => Ok(Some(RunEnd::Halted(0))),
@@ -216,8 +225,8 @@ fn retry<B: Base>(
     ensures seen { Looks (B.view base.old) (B.view base.new) }
     ensures becomes { B.becomes base.old base.new }
     ensures kept { AreKept (B.serves base.new) B.group (B.out base.new) (calls machine.new) }
-    ensures left { OnOk result (IsLeft host.now.budget (B.view base.new).seen machine.old machine.new) }
-    ensures moves { IfOk result (λ o. (j : Journal) → Begins (B.view base.new) j → Does B.rest B.may_visit B.looked_at B.ahead (B.view base.new).causes (move (setting host.now machine.old j)) (setting host.now machine.old j) machine.old machine.new o) }
+    ensures left { OnOk result (IsLeft host.now.budget (B.view base.new) machine.old machine.new) }
+    ensures moves { IfOk result (λ o. (j : Journal) → Begins (B.view base.new) j → Does B.rest B.may_visit B.looked_at B.ahead (B.view base.new).causes [] (move (setting host.now machine.old j)) (setting host.now machine.old j) machine.old machine.new o) }
 {
     match see_newest(&machine.terms) {
         Newest::Nothing => Ok(Some(RunEnd::Exhausted)),
@@ -267,8 +276,8 @@ fn retake<B: Base>(
     ensures seen { Looks (B.view base.old) (B.view base.new) }
     ensures becomes { B.becomes base.old base.new }
     ensures kept { AreKept (B.serves base.new) B.group (B.out base.new) (calls machine.new) }
-    ensures left { OnOk result (IsLeft host.now.budget (B.view base.new).seen machine.old machine.new) }
-    ensures moves { IfOk result (λ o. (j : Journal) → Begins (B.view base.new) j → Does B.rest B.may_visit B.looked_at B.ahead (B.view base.new).causes (move (setting host.now machine.old j)) (setting host.now machine.old j) machine.old machine.new o) }
+    ensures left { OnOk result (IsLeft host.now.budget (B.view base.new) machine.old machine.new) }
+    ensures moves { IfOk result (λ o. (j : Journal) → Begins (B.view base.new) j → Does B.rest B.may_visit B.looked_at B.ahead (B.view base.new).causes [] (move (setting host.now machine.old j)) (setting host.now machine.old j) machine.old machine.new o) }
 {
     if machine.steps == host.budget {
         return Ok(Some(RunEnd::Spent(machine.steps)));

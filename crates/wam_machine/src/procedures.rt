@@ -2,9 +2,9 @@
 ghost use Rattle.std.specs.Prelude.{◌≡◌, ◌≤◌, ◌^◌, ◌+◌, ◌<◌, ◌++◌, ◌∷◌, [], All, OnOk, None, Some, IsSome, if◌then◌else◌, length, take as first_of};
 ghost use Rattle.prolog_terms.specs.Tree.{Tree};
 ghost use Rattle.prolog_terms.specs.declared.entry.Indicator.{Indicator};
-ghost use Rattle.journal_base.specs.Keys.{keys as keys_in};
-ghost use Rattle.journal_base.specs.Calls.{AreKeysOf, goal_keys};
-ghost use Rattle.journal_base.specs.Journal.{Journal, clause_named, number_of, procedures};
+ghost use Rattle.call_patterns.specs.Keys.{keys as keys_in};
+ghost use Rattle.call_patterns.specs.Calls.{AreKeysOf, goal_keys};
+ghost use Rattle.journals.specs.Journal.{Journal, clause_named, number_of, procedures};
 ghost use Rattle.journal_base.specs.Looks.{HasRoom};
 ghost use Rattle.journal_base.specs.View.{IsSound, Looks, has_more};
 ghost use Rattle.wam_machine.specs.Machine.{calling};
@@ -21,7 +21,8 @@ use crate::errors::missing;
 use crate::keys::keys as keys_now;
 use crate::state::{Host, Machine, Mode};
 use crate::terms::{Alternative, Call, Opened};
-use journal_base::{Base, Gate, Keys};
+use call_patterns::Keys;
+use journal_base::{Base, Gate};
 use prolog_terms::{Indicator, Want};
 use std::sync::Wait;
 use term_store::Cell;
@@ -43,8 +44,8 @@ pub(crate) fn call<B: Base, R: Wait, G: Gate>(
     ensures seen { Looks (B.view base.old) (B.view base.new) }
     ensures becomes { B.becomes base.old base.new }
     ensures kept { AreKept (B.serves base.new) B.group (B.out base.new) (calls machine.new) }
-    ensures left { OnOk result (IsLeft host.now.budget (B.view base.new).seen machine.old machine.new) }
-    ensures goes { OnOk result ((j : Journal) → Begins (B.view base.new) j → GoesOn B.rest B.may_visit B.looked_at B.ahead (B.view base.new).causes (λ s. calling (setting host.now machine.old j) s (built machine.old.terms goal) indicator.now) j machine.old machine.new) }
+    ensures left { OnOk result (IsLeft host.now.budget (B.view base.new) machine.old machine.new) }
+    ensures goes { OnOk result ((j : Journal) → Begins (B.view base.new) j → GoesOn B.rest B.may_visit B.looked_at B.ahead (B.view base.new).causes [] (λ s. calling (setting host.now machine.old j) s (built machine.old.terms goal) indicator.now) j machine.old machine.new) }
 {
     match base.find(indicator) {
         None => {
@@ -71,8 +72,8 @@ fn miss<B: Base>(
     ensures seen { Looks (B.view base.old) (B.view base.new) }
     ensures becomes { B.becomes base.old base.new }
     ensures kept { AreKept (B.serves base.new) B.group (B.out base.new) (calls machine.new) }
-    ensures left { OnOk result (IsLeft host.now.budget (B.view base.new).seen machine.old machine.new) }
-    ensures goes { OnOk result ((goal : Tree) (j : Journal) → Begins (B.view base.new) j → GoesOn B.rest B.may_visit B.looked_at B.ahead (B.view base.new).causes (λ s. calling (setting host.now machine.old j) s goal indicator.now) j machine.old machine.new) }
+    ensures left { OnOk result (IsLeft host.now.budget (B.view base.new) machine.old machine.new) }
+    ensures goes { OnOk result ((goal : Tree) (j : Journal) → Begins (B.view base.new) j → GoesOn B.rest B.may_visit B.looked_at B.ahead (B.view base.new).causes [] (λ s. calling (setting host.now machine.old j) s goal indicator.now) j machine.old machine.new) }
 {
     let ball = missing(host.alloc, indicator)?;
     let front = base.front();
@@ -98,9 +99,9 @@ fn look<B: Base>(
     ensures seen { Looks (B.view base.old) (B.view base.new) }
     ensures becomes { B.becomes base.old base.new }
     ensures kept { AreKept (B.serves base.new) B.group (B.out base.new) (calls machine.new) }
-    ensures left { OnOk result (IsLeft host.now.budget (B.view base.new).seen machine.old machine.new) }
+    ensures left { OnOk result (IsLeft host.now.budget (B.view base.new) machine.old machine.new) }
     ensures goes { OnOk result ((i : Indicator) → ((j : Journal) → Begins (B.view base.old) j → number_of (first_of (B.view base.old).seen j) i ≡ Some procedure) → (j : Journal) → Begins (B.view base.new) j
-        → GoesOn B.rest B.may_visit B.looked_at B.ahead (B.view base.new).causes (λ s. calling (setting host.now machine.old j) s (built machine.old.terms goal) i) j machine.old machine.new) }
+        → GoesOn B.rest B.may_visit B.looked_at B.ahead (B.view base.new).causes [] (λ s. calling (setting host.now machine.old j) s (built machine.old.terms goal) i) j machine.old machine.new) }
 {
     let keys = keys_now(&machine.terms, goal);
     machine.fronts.reserve(1)?;

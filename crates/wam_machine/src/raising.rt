@@ -3,7 +3,7 @@ ghost use Rattle.std.specs.Prelude.{◌≡◌, ◌≤◌, ◌^◌, ◌+◌, ◌�
 ghost use Rattle.prolog_terms.specs.Tree.{Tree};
 ghost use Rattle.prolog_terms.specs.Substitutions.{beyond, renamed};
 ghost use Rattle.term_unifier.specs.Unifier.{unifier};
-ghost use Rattle.journal_base.specs.Journal.{Journal};
+ghost use Rattle.journals.specs.Journal.{Journal};
 ghost use Rattle.journal_base.specs.View.{Looks};
 ghost use Rattle.wam_machine.specs.Machine.{Setting, State, Going, halting, over, catching_ball, raising as raising_ball, reached};
 ghost use Rattle.wam_machine.specs.Terms.{AreTerms, IsBuilt, KeepsBound, HasCatch, IsSolved, said, built};
@@ -39,9 +39,9 @@ pub(crate) fn raise<B: Base>(
     ensures seen { Looks (B.view base.old) (B.view base.new) }
     ensures becomes { B.becomes base.old base.new }
     ensures kept { AreKept (B.serves base.new) B.group (B.out base.new) (calls machine.new) }
-    ensures left { OnOk result (IsLeft host.now.budget (B.view base.new).seen machine.old machine.new) }
+    ensures left { OnOk result (IsLeft host.now.budget (B.view base.new) machine.old machine.new) }
     ensures moves { IfOk result (λ o. (ball : Tree) (j : Journal) → machine.old.mode ≡ Mode.Raising ball → Begins (B.view base.new) j
-        → Does B.rest B.may_visit B.looked_at B.ahead (B.view base.new).causes (λ s. raising_ball (setting host.now machine.old j) s ball) (setting host.now machine.old j) machine.old machine.new o) }
+        → Does B.rest B.may_visit B.looked_at B.ahead (B.view base.new).causes [] (λ s. raising_ball (setting host.now machine.old j) s ball) (setting host.now machine.old j) machine.old machine.new o) }
 {
     match active_catch(&machine.terms) {
         None => {
@@ -71,9 +71,9 @@ fn reach<B: Base>(
     ensures seen { Looks (B.view base.old) (B.view base.new) }
     ensures becomes { B.becomes base.old base.new }
     ensures kept { AreKept (B.serves base.new) B.group (B.out base.new) (calls machine.new) }
-    ensures left { OnOk result (IsLeft host.now.budget (B.view base.new).seen machine.old machine.new) }
+    ensures left { OnOk result (IsLeft host.now.budget (B.view base.new) machine.old machine.new) }
     ensures moves { IfOk result (λ o. (ball : Tree) (j : Journal) → machine.old.mode ≡ Mode.Raising ball → Begins (B.view base.new) j
-        → Does B.rest B.may_visit B.looked_at B.ahead (B.view base.new).causes (λ s. reached (setting host.now machine.old j) ball s s.stack) (setting host.now machine.old j) machine.old machine.new o) }
+        → Does B.rest B.may_visit B.looked_at B.ahead (B.view base.new).causes [] (λ s. reached (setting host.now machine.old j) ball s s.stack) (setting host.now machine.old j) machine.old machine.new o) }
 {
     match see_newest(&machine.terms) {
         Newest::Nothing => {

@@ -1,11 +1,10 @@
 // A run, from its goal to its end.
-ghost use Rattle.std.specs.Prelude.{◌≡◌, ◌≤◌, ◌^◌, [], IfOk, IsTrue};
-ghost use Rattle.journal_base.specs.Journal.{Journal};
-ghost use Rattle.journal_base.specs.View.{IsSound, Looks, none_out};
+ghost use Rattle.std.specs.Prelude.{◌≡◌, ◌≤◌, ◌^◌, [], IfOk, drop};
+ghost use Rattle.journals.specs.Journal.{Journal};
+ghost use Rattle.journal_base.specs.View.{Grows, IsSound, Looks, none_out, entries_by};
 ghost use Rattle.wam_machine.specs.Cursors.{Begins};
-ghost use Rattle.wam_machine.specs.Machine.{made_all};
 ghost use Rattle.wam_machine.specs.Runs.{IsRunOf, IsTranscribed, AreShown};
-ghost use Rattle.wam_machine.specs.View.{setting, calls, AreKept, IsReady, IsBeginning, run_of};
+ghost use Rattle.wam_machine.specs.View.{setting, calls, AreKept, IsReady, IsBeginning, IsHostOf, Makes, run_of};
 ghost use Rattle.wam_machine.specs.Terms.{said, calls_in};
 
 use crate::cuts::cut_back;
@@ -33,13 +32,14 @@ pub(crate) fn run<B: Base, R: Wait, G: Gate>(
     requires budget { budget ≤ 10 ^ 11 }
     requires out { B.out base.old ≡ none_out }
     ensures run { IfOk result (IsRunOf ops.now (B.view base.new) (B.view base.old).seen budget goal.now) }
-    ensures seen { Looks (B.view base.old) (B.view base.new) }
+    ensures seen { Grows (B.view base.old) (B.view base.new) }
     ensures becomes { B.becomes base.old base.new }
     ensures out { B.out base.new ≡ none_out }
 {
     let host = Host {
         alloc,
         engine: base.number(),
+        sizes: base.limits(),
         start: base.front(),
         budget,
         ops,
@@ -84,16 +84,17 @@ fn moves<B: Base, R: Wait, G: Gate>(
     gate: &G,
 ) -> Result<RunEnd, Want>
     requires sound { IsSound (B.view base.old) }
+    requires host { IsHostOf host.now (B.view base.old) }
     requires beginning { IsBeginning goal.now host.now.start machine.old }
     requires start { host.now.start ≡ (B.view base.old).seen }
     requires budget { host.now.budget ≤ 10 ^ 11 }
     requires out { B.out base.old ≡ none_out }
-    ensures seen { Looks (B.view base.old) (B.view base.new) }
+    ensures seen { Grows (B.view base.old) (B.view base.new) }
     ensures becomes { B.becomes base.old base.new }
     ensures kept { AreKept (B.serves base.new) B.group (B.out base.new) (calls machine.new) }
     ensures within { IfOk result (λ _. machine.new.steps ≤ host.now.budget) }
-    ensures ended { IfOk result (λ end. (j : Journal) → Begins (B.view base.new) j → IsTrue (made_all (setting host.now machine.old j))
-        → IsTranscribed (setting host.now machine.old j) (B.view base.new).causes goal.now.term (run_of host.now.engine goal.now.shown machine.new end)) }
+    ensures ended { IfOk result (λ end. Makes (B.view base.old) (B.view base.new) (λ made. (j : Journal) → Begins (B.view base.new) j → entries_by host.now.engine (drop host.now.start j) ≡ made
+        → IsTranscribed (setting host.now machine.old j) (B.view base.new).causes goal.now.term (run_of host.now.engine goal.now.shown machine.new end))) }
 {
     let _goal = goal;
     for _ in rt.forever() {

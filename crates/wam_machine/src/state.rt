@@ -2,7 +2,7 @@
 
 use crate::run::Event;
 use crate::terms::Terms;
-use journal_base::Tally;
+use journal_base::{Sizes, Tally};
 use prolog_terms::{Ops, Term};
 use std::alloc::Global;
 
@@ -25,12 +25,13 @@ pub(crate) struct Machine<C> {
     pub tally: Tally,
 }
 
-/// What a run stands on: its engine, the front at its beginning, its budget of steps, and the operators under which its
-/// goals write.
+/// What a run stands on: its engine, the sizes of its database, the front at its beginning, its budget of steps, and the
+/// operators under which its goals write.
 #[derive(Clone, Copy)]
 pub(crate) struct Host<'a> {
     pub alloc: Global,
     pub engine: u32,
+    pub sizes: Sizes,
     pub start: u64,
     pub budget: u64,
     pub ops: &'a Ops,

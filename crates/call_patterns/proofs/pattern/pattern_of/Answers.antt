@@ -1,5 +1,5 @@
 use Rattle.std.proofs.Common.{sym, ap, ◌∙◌, subst}
-use Rattle.journal_base.specs.Calls.{goal_keys}
+use Rattle.call_patterns.specs.Calls.{goal_keys}
 use Rattle.call_patterns.specs.Patterns.{IsPattern, has_key as is_key_there, pattern, positions}
 use Rattle.call_patterns.proofs.Positioned.{with_key, without_key, all_taken}
 use Rattle.call_patterns.proofs.pattern.pattern_of.Goals as goal

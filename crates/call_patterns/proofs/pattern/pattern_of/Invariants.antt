@@ -1,6 +1,6 @@
 use Rattle.std.proofs.Common.{List, ℕ, take, ◌≡◌}
 use Rattle.std.specs.List.{filter}
-use Rattle.journal_base.specs.Calls.{goal_keys}
+use Rattle.call_patterns.specs.Calls.{goal_keys}
 use Rattle.call_patterns.specs.Patterns.{IsPattern, argument_positions, has_key as is_key_there, positions}
 use Rattle.call_patterns.proofs.pattern.pattern_of.Given as goal
 

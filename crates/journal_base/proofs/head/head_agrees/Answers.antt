@@ -1,8 +1,8 @@
 use Rattle.std.proofs.Common.{◌≡◌, ◌+◌, ◌&&◌, sym, ap, ◌∙◌, ◌≤◌, arith}
 use Rattle.std.proofs.lemmas.List.{length-map}
 use Rattle.journal_base.specs.Goals.{goal_of}
-use Rattle.journal_base.specs.NodeKey.{rest_agrees}
-use Rattle.journal_base.proofs.NodeKeys.{whole, no_key_left}
+use Rattle.call_patterns.specs.NodeKey.{rest_agrees}
+use Rattle.call_patterns.proofs.NodeKeys.{whole, no_key_left}
 use Rattle.journal_base.proofs.HeadKeys.{tested_at}
 use Rattle.journal_base.proofs.head.head_agrees.Goals as goal
 use Rattle.journal_base.proofs.head.head_agrees.Goals.{After-key_agrees}

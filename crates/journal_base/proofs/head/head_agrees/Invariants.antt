@@ -1,6 +1,6 @@
 use Rattle.std.proofs.Common.{◌≡◌, Some}
-use Rattle.journal_base.specs.NodeKey.{rest_agrees}
-use Rattle.journal_base.specs.Candidates.{head_agrees}
+use Rattle.call_patterns.specs.NodeKey.{rest_agrees}
+use Rattle.call_patterns.specs.Candidates.{head_agrees}
 use Rattle.journal_base.specs.Goals.{goal_of}
 use Rattle.journal_base.proofs.head.head_agrees.Given as goal
 

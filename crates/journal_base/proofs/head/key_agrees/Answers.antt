@@ -1,9 +1,9 @@
 use Rattle.std.proofs.Common.{sym, ap, ◌∙◌, Some}
 use Rattle.std.specs.Prelude.{option_and_then, option_map}
-use Rattle.journal_base.specs.Keys.{key, keys_agree}
-use Rattle.journal_base.specs.Places.{tree_at}
-use Rattle.journal_base.specs.Calls.{key_of}
-use Rattle.journal_base.proofs.NodeKeys.{agree_past, key_at_node}
+use Rattle.call_patterns.specs.Keys.{key, keys_agree}
+use Rattle.call_patterns.specs.Places.{tree_at}
+use Rattle.call_patterns.specs.Calls.{key_of}
+use Rattle.call_patterns.proofs.NodeKeys.{agree_past, key_at_node}
 use Rattle.journal_base.proofs.head.key_agrees.Goals as goal
 
 pub returns-in-None-node_at : goal.returns-in-None-node_at

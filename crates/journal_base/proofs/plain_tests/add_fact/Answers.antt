@@ -5,7 +5,7 @@ use Rattle.prolog_terms.specs.declared.entry.Clause.{Clause}
 use Rattle.prolog_terms.specs.declared.entry.Indicator.{Indicator}
 use Rattle.prolog_terms.specs.declared.entry.Kind.{Kind}
 use Rattle.prolog_terms.specs.declared.entry.Kind.TheVariants.{Static, Dynamic}
-use Rattle.journal_base.specs.Journal.{Journal, procedure_named}
+use Rattle.journals.specs.Journal.{Journal, procedure_named}
 use Rattle.journal_base.specs.Legal.{MayAdd, MayChange}
 use Rattle.journal_base.specs.Plain.{continued_further}
 use Rattle.journal_base.proofs.Procedures.{named_there}

@@ -1,8 +1,8 @@
 use Rattle.std.proofs.Common.{◌≡◌, ◌+◌, true, false, ◌&&◌, not, refl, ap, sym, ◌∙◌, arith, length, Some}
 use Rattle.std.proofs.lemmas.Bool.{and_left, and_right}
 use Rattle.journal_base.specs.Goals.{goal_of}
-use Rattle.journal_base.specs.Candidates.{head_agrees}
-use Rattle.journal_base.specs.Journal.{is_erased}
+use Rattle.call_patterns.specs.Candidates.{head_agrees}
+use Rattle.journals.specs.Journal.{is_erased}
 use Rattle.journal_base.specs.Scan.{place, is_candidate, adds_here, left}
 use Rattle.journal_base.proofs.Scans.{not_added, is_added, left-take, left-pass}
 use Rattle.journal_base.proofs.seek.at_place.Goals as goal

@@ -1,8 +1,8 @@
 use Rattle.std.proofs.Common.{◌≡◌, ◌≤◌, length, map, filter}
 use Rattle.std.specs.Prelude.{is_some}
 use Rattle.prolog_terms.specs.Flat.{tree}
-use Rattle.journal_base.specs.Numbers.{numbers_from}
-use Rattle.journal_base.specs.Keys.{key_at}
+use Rattle.journals.specs.Numbers.{numbers_from}
+use Rattle.call_patterns.specs.Keys.{key_at}
 use Rattle.journal_base.proofs.space.count_keys.Given as goal
 
 abbrev pub invariant-loop-position : goal.invariant-loop-position

@@ -4,7 +4,7 @@ use Rattle.prolog_session.proofs.load.add_part.Goals as goal
 
 pub returns-in_ok-add_run-in-Clause : goal.returns-in_ok-add_run-in-Clause
 returns-in_ok-add_run-in-Clause g c =
-    rw c.in-Clause.is (takes_clause c.args.steps c.args.load _ _ _ _ _ c.in_ok-fits-in-Clause.ensures c.in_ok-add_run-in-Clause.ensures refl refl)
+    rw c.in-Clause.is (takes_clause c.args.steps c.args.load _ _ _ _ _ _ c.in_ok-fits-in-Clause.ensures c.in_ok-add_run-in-Clause.ensures c.in_ok-at-in-Clause.ensures refl refl)
 
 pub returns-in_ok-add_operators-in-Operators : goal.returns-in_ok-add_operators-in-Operators
 returns-in_ok-add_operators-in-Operators g c =
@@ -19,3 +19,6 @@ returns-in-Nothing g c = rw c.in-Nothing.is (takes_nothing c.args.steps c.args.l
 pub returns-in_ok-push-in-Raises : goal.returns-in_ok-push-in-Raises
 returns-in_ok-push-in-Raises g c =
     rw c.in-Raises.is (takes_raises c.args.steps c.args.load _ _ _ _ _ refl refl c.in_ok-push-in-Raises.ensures c.in_ok-raised-in-Raises.ensures refl)
+
+pub returns-in_ok-add_dynamics-in-Procedures : goal.returns-in_ok-add_dynamics-in-Procedures
+returns-in_ok-add_dynamics-in-Procedures g c = rw c.in-Procedures.is (c.in_ok-add_dynamics-in-Procedures.ensures c.args.steps)

@@ -1,9 +1,10 @@
-use Rattle.std.proofs.Common.{◌<◌, sym, ◌∙◌, subst, List}
+use Rattle.std.proofs.Common.{◌<◌, sym, ◌∙◌, ap, subst, List}
 use Rattle.journal_base.specs.Plain.{Plain}
 use Rattle.prolog_lexer.specs.Streams.{Stream, ahead}
 use Rattle.prolog_reader.specs.Texts.{size}
 use Rattle.wam_machine.specs.declared.run.Run.{Run}
 use Rattle.prolog_session.specs.Load.{IsReadyNext, IsLoadOf}
+use Rattle.prolog_session.specs.Bases.{holding}
 use Rattle.prolog_session.proofs.Loads.{shorter, loading-goes, loading-refused, loading-end}
 use Rattle.prolog_session.proofs.load.load_text.Goals as goal
 
@@ -23,7 +24,7 @@ returns-in-Refused g c =
     let l = loading-refused c.args.sizes c.args.steps c.parts.load.base c.parts.load.ops c.parts.load.runs c.parts.load.kept (ahead c.parts.lexer) c.in-Refused.refusal c.args.text.now
     c.parts.invariant (sym c.in_ok-part.ensures.next ∙ c.in-Refused.is) in
     record {
-      base = end.base ∙ l.base;
+      base = end.base ∙ l.base ∙ ap (λ (b : Plain). holding c.args.sizes b.entries) (sym end.base);
       runs = subst (λ (b : Plain). IsLoadOf c.args.sizes c.args.steps c.args.text.now b.entries c.ended.result.runs) (sym end.base)
           (subst (λ (runs : List Run). IsLoadOf c.args.sizes c.args.steps c.args.text.now c.parts.load.base.entries runs) (sym end.runs) l.loads);
       operators = end.operators ∙ l.operators;

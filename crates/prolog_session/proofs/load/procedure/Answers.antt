@@ -1,5 +1,5 @@
 use Rattle.std.proofs.Common.{◌≡◌, ◌∙◌, sym}
-use Rattle.journal_base.specs.Journal.{Journal, procedure_named}
+use Rattle.journals.specs.Journal.{Journal, procedure_named}
 use Rattle.prolog_session.proofs.Plains.{in_seen, same_after}
 use Rattle.prolog_session.proofs.Placing.{found, declares_done, declares_already, declares_full}
 use Rattle.prolog_session.proofs.load.procedure.Goals as goal

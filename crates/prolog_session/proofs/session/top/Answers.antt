@@ -1,7 +1,7 @@
 use Rattle.std.proofs.Common.{◌≡◌, ◌++◌, ◌∙◌, sym, subst, arith, List, ℕ, Option, Some, inl}
 use Rattle.std.specs.Prelude.{Any, All, IfSome, map, string_bytes}
 use Rattle.prolog_terms.specs.Operators.{Table}
-use Rattle.journal_base.specs.Journal.{Journal}
+use Rattle.journals.specs.Journal.{Journal}
 use Rattle.journal_base.specs.Legal.{Legal}
 use Rattle.wam_machine.specs.declared.run.Run.{Run}
 use Rattle.prolog_session.specs.FaultCounts.{Rose}

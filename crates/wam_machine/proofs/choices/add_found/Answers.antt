@@ -1,4 +1,4 @@
-use Rattle.std.proofs.Common.{◌≡◌, ◌∙◌, ◌<◌, ◌-◌, suc, ℕ, length, refl, sym, ap, arith, List}
+use Rattle.std.proofs.Common.{◌≡◌, ◌-◌, ℕ, length, refl, sym, ap, arith, List}
 use Rattle.std.proofs.lemmas.List.{length-map}
 use Rattle.wam_machine.specs.Terms.{Saved, Said, said, saved_of, found_in}
 use Rattle.wam_machine.proofs.Told.{at_err}

@@ -2,7 +2,7 @@ use Rattle.std.proofs.Common.{◌≡◌, ◌≤◌, Some, sym, ap, ◌∙◌, ar
 use Rattle.std.specs.Prelude.{is_some}
 use Rattle.std.proofs.lemmas.Result.{IfOk-weaker}
 use Rattle.prolog_terms.specs.Clauses.{IsClause}
-use Rattle.journal_base.specs.Journal.{Journal, clause_named}
+use Rattle.journals.specs.Journal.{Journal, clause_named}
 use Rattle.journal_base.specs.View.{InSeen}
 use Rattle.wam_machine.specs.Cursors.{Begins}
 use Rattle.wam_machine.proofs.Begins.{begins_self, begins_before, seen_in}

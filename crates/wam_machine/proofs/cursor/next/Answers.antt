@@ -1,5 +1,6 @@
 use Rattle.std.proofs.Common.{◌≡◌, ◌+◌, ◌≤◌, take, subst, arith}
-use Rattle.journal_base.specs.Calls.{Goal, goal_keys}
+use Rattle.call_patterns.specs.Calls.{goal_keys}
+use Rattle.journal_base.specs.Goals.{Goal}
 use Rattle.journal_base.specs.View.{View, Gives}
 use Rattle.wam_machine.specs.Terms.{call_now}
 use Rattle.wam_machine.specs.Cursors.{names_left, visits_left}

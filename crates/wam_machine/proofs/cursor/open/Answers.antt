@@ -1,7 +1,8 @@
 use Rattle.std.proofs.Common.{◌≡◌, ◌+◌, ◌≤◌, take, sym, ap, ◌∙◌, subst, arith}
-use Rattle.journal_base.specs.Keys.{keys}
-use Rattle.journal_base.specs.Calls.{Goal, goal_keys}
-use Rattle.journal_base.specs.Candidates.{candidates}
+use Rattle.call_patterns.specs.Keys.{keys}
+use Rattle.call_patterns.specs.Calls.{goal_keys}
+use Rattle.journal_base.specs.Goals.{Goal}
+use Rattle.call_patterns.specs.Candidates.{candidates}
 use Rattle.journal_base.specs.Looks.{IsFair, allowance, most_raised}
 use Rattle.journal_base.specs.View.{View}
 use Rattle.wam_machine.specs.Cursors.{goal_of, part, names_left, visits_left}

@@ -5,8 +5,8 @@ use Rattle.wam_machine.proofs.cuts.cut_stack.Goals as goal
 pub returns-clause-left : goal.returns-clause-left
 returns-clause-left g c =
     let m = c.args.machine.now in
-    left_cut c.args.host.now.budget (g.B.Base.view c.args.base.now).seen (g.B.Base.view c.cut_back.new.base).seen c.args.height m c.cut_back.new.terms
-    (c.cut_back.ensures.terms c.requires.ready.terms) c.cut_back.ensures.said c.requires.ready.held c.cut_back.ensures.seen.grows.front
+    left_cut c.args.host.now.budget (g.B.Base.view c.args.base.now) (g.B.Base.view c.cut_back.new.base) c.args.height m c.cut_back.new.terms
+    (c.cut_back.ensures.terms c.requires.ready.terms) c.cut_back.ensures.said c.requires.ready.held c.cut_back.ensures.seen
 
 pub returns-clause-goes : goal.returns-clause-goes
 returns-clause-goes g c = λ j b.

@@ -1,12 +1,10 @@
-use Rattle.std.proofs.Common.{[], Bool, ap, ap₂, refl, sym, subst, ◌∙◌}
-use Rattle.prolog_terms.specs.Tree.{Tree}
+use Rattle.std.proofs.Common.{[], Bool, refl, subst}
 use Rattle.term_builtins.specs.Meanings.{list_tree}
 use Rattle.term_unifier.specs.Unifier.{unifier}
 use Rattle.wam_machine.specs.Machine.{new_copies, behind_copies}
-use Rattle.wam_machine.specs.Terms.{Said, IsSolved, said, built, calls_in}
+use Rattle.wam_machine.specs.Terms.{IsSolved, said, built}
 use Rattle.wam_machine.specs.declared.state.Machine.{Machine}
 use Rattle.wam_machine.specs.declared.state.Mode.TheVariants.{Going as IsGoing, Failing as IsFailing}
-use Rattle.wam_machine.proofs.Told.{at_err}
 use Rattle.wam_machine.proofs.Gathered.{acts-gathered, acts-apart, solved-there}
 use Rattle.wam_machine.proofs.findall.finish.Goals as goal
 

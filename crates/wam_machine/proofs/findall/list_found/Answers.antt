@@ -1,10 +1,9 @@
-use Rattle.std.proofs.Common.{List, ap, ◌∙◌, sym}
+use Rattle.std.proofs.Common.{List, ap, ◌∙◌}
 use Rattle.std.proofs.lemmas.Result.{IfOk-weaker, on_ok_weaker}
 use Rattle.std.specs.Prelude.{map}
-use Rattle.prolog_terms.specs.Tree.{Tree}
 use Rattle.term_store.specs.declared.cell.Cell.{Cell}
 use Rattle.term_builtins.specs.Meanings.{list_tree}
-use Rattle.wam_machine.specs.Terms.{Said, said, built, AreTerms}
+use Rattle.wam_machine.specs.Terms.{Said, built}
 use Rattle.wam_machine.proofs.Acted.{cells-on}
 use Rattle.wam_machine.proofs.Told.{err_weaker}
 use Rattle.wam_machine.proofs.findall.list_found.Goals as goal

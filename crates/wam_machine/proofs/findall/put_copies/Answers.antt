@@ -1,6 +1,6 @@
 use Rattle.std.proofs.Common.{◌∙◌, refl}
 use Rattle.wam_machine.proofs.Told.{at_err}
-use Rattle.wam_machine.proofs.Gathered.{putting-first, putting-next, putting-said, putting-copies, putting-stack}
+use Rattle.wam_machine.proofs.Gathered.{putting-first, putting-next, putting-stack}
 use Rattle.wam_machine.proofs.findall.put_copies.Goals as goal
 
 pub loop-copy-init : goal.loop-copy-init

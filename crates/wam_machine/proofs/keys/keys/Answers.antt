@@ -1,5 +1,5 @@
 use Rattle.std.proofs.Common.{◌≡◌, ◌∙◌, ap, refl, arith}
-use Rattle.journal_base.specs.Keys.{keys as keys_in}
+use Rattle.call_patterns.specs.Keys.{keys as keys_in}
 use Rattle.term_store.specs.Terms.{term_of}
 use Rattle.wam_machine.proofs.KeyPlaces.{goal_has, stands, none_yet, next_key, goal_keys_are, keys_numbered}
 use Rattle.wam_machine.proofs.keys.keys.Goals as goal

@@ -1,4 +1,4 @@
-use Rattle.journal_base.specs.Filling.{Filled}
+use Rattle.call_patterns.specs.Filling.{Filled}
 use Rattle.term_store.specs.Terms.{term_of}
 use Rattle.wam_machine.proofs.keys.keys.Given as goal
 

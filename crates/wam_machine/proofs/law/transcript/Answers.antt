@@ -5,10 +5,10 @@ use Rattle.wam_machine.proofs.WellMade.{goals_are_bodies}
 use Rattle.wam_machine.proofs.law.transcript.Goals as goal
 
 pub returns-clause-one : goal.returns-clause-one
-returns-clause-one c = λ x goal fronts r q h k. Runs-one x r q h k
+returns-clause-one c = λ x goal fronts r q h k. Runs-one x r q h.runs k.runs
 
 pub returns-clause-within : goal.returns-clause-within
-returns-clause-within c = λ x goal fronts r h. Runs-within x h (omega arith)
+returns-clause-within c = λ x goal fronts r h. Runs-within x h.runs (omega arith)
 
 pub returns-clause-total : goal.returns-clause-total
 returns-clause-total c = has_transcript

@@ -44,8 +44,8 @@ returns-clause-left g c =
     record {
       terms = k.terms;
       shown = k.shown ∙ c.in-Some.ensures.shown;
-      held = held_retaken c.args.host.now.budget (g.B.Base.view c.args.base.now).seen (g.B.Base.view c.resume.new.base).seen m n n.tally.visits k.steps k.front k.tally
-          (fewer (calls m) (calls_in (said t).stack) (turn_calls (turn_now t c.in-Some.what)) (length (calls n)) were e.grown) e.seen.grows.front c.if-machine-host.false c.requires.ready.held;
+      held = held_retaken c.args.host.now.budget (g.B.Base.view c.args.base.now) (g.B.Base.view c.resume.new.base) m n n.tally.visits k.steps k.front k.tally
+          (fewer (calls m) (calls_in (said t).stack) (turn_calls (turn_now t c.in-Some.what)) (length (calls n)) were e.grown) e.seen c.if-machine-host.false c.requires.ready.held;
     }
 
 pub returns-clause-moves : goal.returns-clause-moves

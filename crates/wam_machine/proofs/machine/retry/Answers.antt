@@ -1,6 +1,6 @@
-use Rattle.std.proofs.Common.{[], sym, subst}
+use Rattle.std.proofs.Common.{[]}
 use Rattle.wam_machine.specs.Machine.{move}
-use Rattle.wam_machine.specs.View.{setting, AreKept}
+use Rattle.wam_machine.specs.View.{setting}
 use Rattle.wam_machine.proofs.Begins.{looks_refl}
 use Rattle.wam_machine.proofs.Done.{acts_goes, acts_left, acts_kept}
 use Rattle.wam_machine.proofs.machine.retry.Goals as goal
@@ -18,7 +18,7 @@ returns-in_ok-pass_mark-in-Mark g c =
       seen = looks_refl _ c.requires.ready.sound;
       becomes = g.met.B.Base.becomes_itself _;
       kept = acts_kept (move x) m n (acts x) (g.B.Base.serves c.args.base.now) g.B.Base.group (g.B.Base.out c.args.base.now) c.requires.ready.kept;
-      left = acts_left (move x) m n (acts x) c.args.host.now.budget (g.B.Base.view c.args.base.now).seen c.requires.ready.held;
+      left = acts_left (move x) m n (acts x) c.args.host.now.budget (g.B.Base.view c.args.base.now) c.requires.ready.held;
       moves = λ j b.
           let y = setting c.args.host.now m j in
           acts_goes (move y) m n (acts y) g.B.Base.rest g.B.Base.may_visit g.B.Base.looked_at g.B.Base.ahead _ j (c.requires.ready.each j b);

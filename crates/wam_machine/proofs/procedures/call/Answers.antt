@@ -1,5 +1,5 @@
 use Rattle.std.proofs.Common.{◌≡◌, sym, take, None, Some}
-use Rattle.journal_base.specs.Journal.{procedure_named}
+use Rattle.journals.specs.Journal.{procedure_named}
 use Rattle.wam_machine.specs.Terms.{built}
 use Rattle.wam_machine.proofs.Begins.{looks_trans, seen_in}
 use Rattle.wam_machine.proofs.Named.{procedure_within}

@@ -1,13 +1,13 @@
-use Rattle.std.proofs.Common.{◌≡◌, ◌≤◌, ◌∙◌, ◌++◌, ◌∷◌, [], sym, ap, subst, length, Some, refl, arith}
+use Rattle.std.proofs.Common.{◌≡◌, ◌≤◌, ◌∙◌, ◌++◌, ◌∷◌, [], ℕ, sym, ap, subst, length, Some, refl, arith}
 use Rattle.std.proofs.lemmas.List.Elements.{All-push}
 use Rattle.wam_machine.specs.Machine.{calling}
 use Rattle.wam_machine.specs.Terms.{call_now, built}
 use Rattle.wam_machine.specs.Cursors.{AreNamed}
-use Rattle.wam_machine.specs.View.{setting, calls, GoesOn}
-use Rattle.wam_machine.proofs.Begins.{begins_before, long}
+use Rattle.wam_machine.specs.View.{setting, calls, GoesOn, IsHeld}
+use Rattle.wam_machine.proofs.Begins.{begins_before, long, fronted, fronted_on}
 use Rattle.wam_machine.proofs.Named.{procedure_stays}
 use Rattle.wam_machine.proofs.Kept.{kept_count, kept_more}
-use Rattle.wam_machine.proofs.Room.{has_room, room_after, less}
+use Rattle.wam_machine.proofs.Room.{has_room, room_after, less, held_looked}
 use Rattle.wam_machine.proofs.Looked.{looked}
 use Rattle.wam_machine.proofs.procedures.look.Goals as goal
 
@@ -38,6 +38,23 @@ try_next-requires-clause-room g c =
     c.open-call.ensures.counts
     (λ j b. less _ _ _ (c.open-call.ensures.opened c.args.machine.now.front c.requires.ready.held.reached j b).raised)
 
+pub returns-clause-left : goal.returns-clause-left
+returns-clause-left g c =
+    let m = c.args.machine.now in
+    let w = g.B.Base.view c.open-call.new.base in
+    let u = g.B.Base.view c.try_next.new.base in
+    let n = c.try_next.new.machine in
+    let e = c.in_ok-try_next.ensures in
+    let k = e.counts in
+    let held = held_looked c.args.host.now.budget (g.B.Base.view c.args.base.now) u m.steps m.front c.front-front.result (length (calls m)) (length (calls n)) m.tally c.open-call.new.tally n.tally c.open-call.result.how
+    c.requires.ready.held c.requires.room c.open-call.ensures.counts k.tally e.grown (fronted_on w u c.front-front.result e.seen (fronted w c.front-front.result c.open-call.ensures.seen.grows.sound c.front-front.ensures.front)) in
+    record {
+      terms = k.terms;
+      shown = k.shown;
+      held = subst (λ (f : ℕ). IsHeld c.args.host.now.budget u n.steps f (length (calls n)) n.tally) (sym k.front)
+          (subst (λ (s : ℕ). IsHeld c.args.host.now.budget u s c.front-front.result (length (calls n)) n.tally) (sym k.steps) held);
+    }
+
 pub returns-clause-goes : goal.returns-clause-goes
 returns-clause-goes g c = λ i found j b.
     let m = c.args.machine.now in
@@ -57,8 +74,8 @@ returns-clause-goes g c = λ i found j b.
     let mid = record m { front = c.front-front.result; fronts = c.push_reserved.new.self; tally = c.open-call.new.tally } in
     let tries = c.in_ok-try_next.ensures.tried j b in
     let counts = c.in_ok-try_next.ensures.counts in
-    subst (λ t. GoesOn g.B.Base.rest g.B.Base.may_visit g.B.Base.looked_at g.B.Base.ahead u.causes (λ s. calling (setting c.args.host.now m j) s (built m.terms t) i) j m c.try_next.new.machine) c.open-call.ensures.goal
-    (subst (λ cs. GoesOn g.B.Base.rest g.B.Base.may_visit g.B.Base.looked_at g.B.Base.ahead cs (λ s. calling (setting c.args.host.now m j) s left.goal i) j m c.try_next.new.machine) causes
+    subst (λ t. GoesOn g.B.Base.rest g.B.Base.may_visit g.B.Base.looked_at g.B.Base.ahead u.causes [] (λ s. calling (setting c.args.host.now m j) s (built m.terms t) i) j m c.try_next.new.machine) c.open-call.ensures.goal
+    (subst (λ cs. GoesOn g.B.Base.rest g.B.Base.may_visit g.B.Base.looked_at g.B.Base.ahead cs [] (λ s. calling (setting c.args.host.now m j) s left.goal i) j m c.try_next.new.machine) causes
     (looked g.B.Base.rest g.B.Base.may_visit g.B.Base.looked_at g.B.Base.ahead w.causes (setting c.args.host.now m j) m mid c.try_next.new.machine left c.open-call.result.how i
     (c.front-front.ensures.front ∙ sym at) low high (named ∙ ap Some (sym c.open-call.ensures.procedure)) refl refl refl refl
     (c.push_reserved.ensures.items ∙ ap (λ l. l ++ c.front-front.result ∷ []) c.in_ok-reserve.ensures.items)

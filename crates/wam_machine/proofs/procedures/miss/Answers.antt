@@ -1,8 +1,8 @@
 use Rattle.std.proofs.Common.{◌≡◌, ◌≤◌, ◌∷◌, [], sym, subst, length, take, refl, arith, None}
-use Rattle.journal_base.specs.Journal.{number_of}
+use Rattle.journals.specs.Journal.{number_of}
 use Rattle.wam_machine.specs.Terms.{said}
 use Rattle.wam_machine.specs.View.{setting, stack_of, mode_of as shown_mode}
-use Rattle.wam_machine.proofs.Begins.{long, looks_refl}
+use Rattle.wam_machine.proofs.Begins.{long, looks_refl, below_seen}
 use Rattle.wam_machine.proofs.Looked.{call_missing}
 use Rattle.wam_machine.proofs.Steps.{quiet}
 use Rattle.wam_machine.proofs.procedures.miss.Goals as goal
@@ -26,3 +26,25 @@ returns-in_err-push-clause-seen g c = looks_refl _ c.requires.ready.sound
 
 pub returns-clause-seen : goal.returns-clause-seen
 returns-clause-seen g c = looks_refl _ c.requires.ready.sound
+
+pub returns-clause-left : goal.returns-clause-left
+returns-clause-left g c =
+    let v = g.B.Base.view c.args.base.now in
+    let is : c.front-front.result ≡ v.seen = c.front-front.ensures.front in
+    let h = c.requires.ready.held in
+    record {
+      terms = c.requires.ready.terms;
+      shown = refl;
+      held = record {
+        within = h.within;
+        few = h.few;
+        reached = omega (arith, is);
+        below = below_seen v c.front-front.result c.requires.ready.sound is;
+        looks = h.looks;
+        scans = h.scans;
+        kept = h.kept;
+        wants = h.wants;
+        built = h.built;
+        indexes = h.indexes;
+      };
+    }

@@ -24,7 +24,7 @@ returns-in_ok-recover-in-Catch g c =
       seen = looks_refl _ c.requires.ready.sound;
       becomes = g.met.B.Base.becomes_itself _;
       kept = acts_kept (λ s. reached x ball.0 s s.stack) m n (acts x ball.0 ball.1) (g.B.Base.serves c.args.base.now) g.B.Base.group (g.B.Base.out c.args.base.now) c.requires.ready.kept;
-      left = acts_left (λ s. reached x ball.0 s s.stack) m n (acts x ball.0 ball.1) c.args.host.now.budget (g.B.Base.view c.args.base.now).seen c.requires.ready.held;
+      left = acts_left (λ s. reached x ball.0 s s.stack) m n (acts x ball.0 ball.1) c.args.host.now.budget (g.B.Base.view c.args.base.now) c.requires.ready.held;
       moves = λ b j mode h.
           let y = setting c.args.host.now m j in
           acts_goes (λ s. reached y b s s.stack) m n (acts y b mode) g.B.Base.rest g.B.Base.may_visit g.B.Base.looked_at g.B.Base.ahead _ j (c.requires.ready.each j h);

@@ -1,6 +1,6 @@
 use Rattle.std.proofs.Common.{◌≡◌, ◌≤◌, ◌+◌, ◌∙◌, ◌++◌, ◌∷◌, [], refl, sym, ap, subst, arith, length, length-append, slice_get, set, Some, false}
 use Rattle.std.specs.Prelude.{IsSome}
-use Rattle.journal_base.specs.Journal.{clause_named, is_erased}
+use Rattle.journals.specs.Journal.{clause_named, is_erased}
 use Rattle.journal_base.specs.Fates.{AreFates, alive_in}
 use Rattle.journal_base.specs.Held.{Held}
 use Rattle.journal_base.specs.declared.fate.Fate.TheVariants.{NoClause, Alive, ErasedBy}

@@ -1,6 +1,6 @@
 use Rattle.std.proofs.Common.{◌≡◌, ◌∙◌, true, false, Some, slice_get, refl, sym, ap, subst}
 use Rattle.prolog_terms.specs.declared.entry.Entry.{Entry}
-use Rattle.journal_base.specs.Journal.{erases, is_erased}
+use Rattle.journals.specs.Journal.{erases, is_erased}
 use Rattle.journal_base.specs.Held.{Held}
 use Rattle.journal_base.specs.declared.fate.Fate.TheVariants.{NoClause, Alive}
 use Rattle.journal_base.proofs.Fated.{not_erased, eraser_there}

@@ -1,7 +1,7 @@
 use Rattle.std.proofs.Common.{◌≡◌, ◌<◌, false, length, sym, subst, arith}
 use Rattle.std.specs.Prelude.{IsSome}
 use Rattle.prolog_terms.specs.declared.entry.What.TheVariants.{Erase}
-use Rattle.journal_base.specs.Journal.{clause_named, is_erased}
+use Rattle.journals.specs.Journal.{clause_named, is_erased}
 use Rattle.journal_base.specs.Legal.{MayChangeClause}
 use Rattle.journal_base.specs.Plain.{Plain, plain_view}
 use Rattle.journal_base.specs.View.{InSeen}

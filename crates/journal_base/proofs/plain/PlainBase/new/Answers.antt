@@ -1,6 +1,6 @@
 use Rattle.std.proofs.Common.{◌≡◌, [], length, refl, sym, subst, arith}
 use Rattle.std.proofs.lemmas.Grind.{common_steps}
-use Rattle.journal_base.specs.Journal.{procedures}
+use Rattle.journals.specs.Journal.{procedures}
 use Rattle.journal_base.specs.Legal.{Legal}
 use Rattle.journal_base.specs.Space.{used}
 use Rattle.journal_base.specs.PlainInside.{AreFound}

@@ -1,7 +1,7 @@
 use Rattle.std.proofs.Common.{◌≡◌, ◌+◌, ◌<◌, ◌∙◌, ◌++◌, ◌∷◌, [], length, length-append, sym, ap, subst, arith}
 use Rattle.prolog_terms.specs.declared.entry.Clause.{Clause}
 use Rattle.prolog_terms.specs.declared.entry.What.TheVariants.{Add}
-use Rattle.journal_base.specs.Journal.{Journal}
+use Rattle.journals.specs.Journal.{Journal}
 use Rattle.journal_base.specs.Legal.{MayAdd}
 use Rattle.journal_base.specs.Space.{used}
 use Rattle.journal_base.specs.View.{InSeen}

@@ -2,7 +2,7 @@ use Rattle.std.proofs.Common.{◌≡◌, ◌+◌, ◌<◌, ◌∙◌, ◌++◌, 
 use Rattle.std.specs.HashMap.{Updates}
 use Rattle.prolog_terms.specs.declared.entry.Indicator.{Indicator}
 use Rattle.prolog_terms.specs.declared.entry.What.TheVariants.{Declare}
-use Rattle.journal_base.specs.Journal.{Journal, procedure_named, same_indicator}
+use Rattle.journals.specs.Journal.{Journal, procedure_named, same_indicator}
 use Rattle.journal_base.specs.Legal.{MayChange}
 use Rattle.journal_base.specs.Space.{used}
 use Rattle.journal_base.specs.Plain.{Plain}

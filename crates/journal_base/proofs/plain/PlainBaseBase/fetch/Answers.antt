@@ -1,6 +1,6 @@
 use Rattle.std.proofs.Common.{sym, subst}
 use Rattle.std.specs.Prelude.{IsSome}
-use Rattle.journal_base.specs.Journal.{clause_named}
+use Rattle.journals.specs.Journal.{clause_named}
 use Rattle.journal_base.proofs.PlainViews.{seen_whole}
 use Rattle.journal_base.proofs.plain.PlainBaseBase.fetch.Goals as goal
 

@@ -1,0 +1,7 @@
+use Rattle.std.proofs.Common.{refl}
+use Rattle.call_patterns.specs.Keys.{could_match, keys}
+use Rattle.call_patterns.proofs.law.worked_keys.Goals as goal
+
+pub returns : goal.returns
+unfolding could_match keys
+returns c = record { some_a = refl; no_atom = refl; all_of_p = refl; first_argument = refl; second_argument = refl; its_argument = refl; no_position = refl }

@@ -1,7 +1,0 @@
-use Rattle.std.specs.Prelude.{◌≤◌}
-use Rattle.prolog_terms.specs.Flat.{tree}
-use Rattle.journal_base.specs.Filling.{Filled, Longer}
-use Rattle.journal_base.proofs.keys.keys_of.Given as goal
-
-abbrev pub invariant-loop-position : goal.invariant-loop-position
-invariant-loop-position l = Filled l.names (tree l.nodes) l.at l.position × (Longer l.fn.names l.names × (l.position ≤ 40))

@@ -1,0 +1,5 @@
+pub mod Numbers
+pub mod Journal
+pub mod Updates
+pub mod Laws
+pub mod Examples

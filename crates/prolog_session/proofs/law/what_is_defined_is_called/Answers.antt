@@ -1,5 +1,0 @@
-use Rattle.prolog_session.proofs.OthersAreCalled.{others-are-called}
-use Rattle.prolog_session.proofs.law.what_is_defined_is_called.Goals as goal
-
-pub returns : goal.returns
-returns c = others-are-called

@@ -1,0 +1,11 @@
+-- What a text may define is called as a procedure.
+use Rattle.std.specs.Prelude.{◌≡◌, false, Some}
+use Rattle.prolog_terms.specs.Tree.{Tree}
+use Rattle.prolog_terms.specs.Indicators.{indicator_of}
+use Rattle.prolog_terms.specs.declared.entry.Indicator.{Indicator}
+use Rattle.wam_machine.specs.Control.{control_of, User}
+use Rattle.wam_machine.specs.Reserved.{is_reserved}
+
+-- a goal whose name and arity are not reserved is the call of the procedure of that name and arity
+abbrev pub DefinedAreCalled : Type 0
+DefinedAreCalled = (goal : Tree) (i : Indicator) → indicator_of goal ≡ Some i → is_reserved i ≡ false → control_of goal ≡ Some (User i)

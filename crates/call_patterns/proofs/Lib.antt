@@ -6,5 +6,6 @@ pub mod NumberedKeys
 pub mod Agreeing
 pub mod Bucketed
 pub mod SameKeys
+pub mod Matched
 pub mod Positioned
 pub mod Sized

@@ -1,6 +1,7 @@
 pub mod Keys
 pub mod Calls
 pub mod Candidates
+pub mod Matching
 pub mod Places
 pub mod Wanted
 pub mod NodeKey

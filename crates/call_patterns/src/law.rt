@@ -4,6 +4,7 @@ ghost use Rattle.call_patterns.specs.Agreement.{agreeing};
 ghost use Rattle.call_patterns.specs.Codes.{hash, key_code};
 ghost use Rattle.call_patterns.specs.Examples.{HasRows};
 ghost use Rattle.call_patterns.specs.Laws.{SizesByCounts, WorkedSizes};
+ghost use Rattle.call_patterns.specs.Matching.{OneTermsMatch};
 ghost use Rattle.call_patterns.specs.Patterns.{pattern, pattern_codes};
 ghost use Rattle.call_patterns.specs.Rows.{bucket, names, rows};
 ghost use Rattle.call_patterns.specs.Candidates.{candidates, head_agrees};
@@ -28,6 +29,12 @@ pub fn candidates_are_in_the_bucket()
         → candidates journal procedure goal ≡ filter (λ k. head_agrees goal (clause_named journal k)) (names (bucket (rows journal procedure) (pattern goal) (pattern_codes goal))) }
     ensures all { (journal : Journal) (procedure : ℕ) (goal : GoalKeys)
         → pattern goal ≡ [] → agreeing journal procedure goal ≡ length (alive journal procedure) }
+{}
+
+/// A head that some substitution makes one with an instance of a goal could match it, so the choice of clauses loses no
+/// answer.
+pub fn heads_that_unify_could_match()
+    ensures { OneTermsMatch }
 {}
 
 /// Worked sizes of trees, computed by the checker.

@@ -20,8 +20,8 @@ pub use coding::code;
 pub use key::{Key, Keys, Position};
 pub use keys::{could_match, keys_of};
 pub use law::{
-    candidates_are_in_the_bucket, equal_keys_have_equal_codes, published_check, sizes_by_counts,
-    worked_keys, worked_sizes,
+    candidates_are_in_the_bucket, equal_keys_have_equal_codes, heads_that_unify_could_match,
+    published_check, sizes_by_counts, worked_keys, worked_sizes,
 };
 pub use pattern::{Pattern, pattern_of};
 pub use row::Row;

@@ -9,3 +9,4 @@ pub mod Procedures
 pub mod Kept
 pub mod PlainSteps
 pub mod PlainLaws
+pub mod WorkedJournals

@@ -5,7 +5,7 @@ use std::sync::Wait;
 /// Where a run stops before each look. It has no meaning for the answers: a test may hold a run here until another one
 /// has come as far.
 pub trait Gate {
-    /// Engine `engine` is about to make its look number `look`, counted from 1.
+    /// Engine `engine` is about to make look number `look` of its run, counted from 1.
     fn pass<R: Wait>(&self, rt: &R, engine: u32, look: u64);
 }
 

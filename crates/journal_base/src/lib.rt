@@ -25,7 +25,7 @@ pub use base::{Base, Look};
 pub use call::Call;
 pub use cause::{Cause, How};
 pub use gate::{Gate, OpenGate};
-pub use law::worked_words;
+pub use law::{worked_journals, worked_words};
 pub use plain::{PlainBase, PlainCursor};
 pub use sizes::Sizes;
 pub use tally::Tally;

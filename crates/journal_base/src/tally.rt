@@ -4,7 +4,7 @@ ghost use Rattle.std.specs.Prelude.{◌≡◌};
 /// What a run asked of its database, and what that cost.
 #[derive(Clone, Copy, Debug, PartialEq, Eq)]
 pub struct Tally {
-    /// Looks: calls of declared procedures.
+    /// Looks for clauses.
     pub looks: u64,
     /// Looks that scanned the procedure's clauses.
     pub scans: u64,

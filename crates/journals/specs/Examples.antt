@@ -1,5 +1,5 @@
 -- A journal, worked by hand.
-use Rattle.std.specs.Prelude.{◌≡◌, ℕ, List, [], ◌∷◌, Some, None, codes}
+use Rattle.std.specs.Prelude.{◌≡◌, ℕ, List, [], ◌∷◌, ◌++◌, Some, None, codes}
 use Rattle.prolog_terms.specs.Tree.{Tree, variable, atom, compound, none, more}
 use Rattle.prolog_terms.specs.declared.entry.Clause.{Clause}
 use Rattle.prolog_terms.specs.declared.entry.Entry.{Entry}
@@ -36,6 +36,10 @@ journal =
     ∷ by (Erase 2)
     ∷ []
 
+-- and then both ends of the chain of p are erased
+abbrev end_erased : Journal
+end_erased = journal ++ by (Erase 3) ∷ by (Erase 6) ∷ []
+
 pub record HasRows : Type 0 where
   -- additions at the front come newest first, then those at the back
   pub chained : chain journal 0 ≡ 3 ∷ 2 ∷ 1 ∷ 6 ∷ []
@@ -44,5 +48,11 @@ pub record HasRows : Type 0 where
   pub updated : updates_of journal 0 ≡ 5
   pub first : first_of journal 0 ≡ Some 3
   pub last : last_of journal 0 ≡ Some 6
+  -- one addition to q; the erasure is of p's
+  pub updated_other : updates_of journal 1 ≡ 1
+  -- an erased clause stays an end of the chain
+  pub first_erased : first_of end_erased 0 ≡ Some 3
+  pub last_erased : last_of end_erased 0 ≡ Some 6
+  pub updated_twice : updates_of end_erased 0 ≡ 7
   pub second : procedure_named journal (name 1 (codes "q")) ≡ Some (1, Static)
   pub other_arity : number_of journal (name 2 (codes "q")) ≡ None

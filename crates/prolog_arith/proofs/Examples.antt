@@ -19,10 +19,14 @@ has_sums = record {
   opposite_over = refl;
   absolute = refl;
   absolute_over = refl;
+  absolute_above = refl;
   sign = refl;
+  sign_above = refl;
   sign_zero = refl;
   min = refl;
   max = refl;
+  min_turned = refl;
+  max_turned = refl;
 }
 
 pub has_divisions : HasDivisions
@@ -45,7 +49,7 @@ has_divisions = record {
 
 pub has_bits : HasBits
 unfolding evaluated
-has_bits = record { complement = refl; both = refl; either = refl }
+has_bits = record { complement = refl; both = refl; either = refl; both_above = refl; both_below = refl; either_above = refl; either_below = refl }
 
 pub has_shifts : HasShifts
 unfolding evaluated
@@ -58,6 +62,11 @@ has_shifts = record {
   right = refl;
   right_negative = refl;
   right_floor = refl;
+  right_by_two = refl;
+  right_floor_by_two = refl;
+  left_by_three = refl;
+  left_back_by_two = refl;
+  right_back = refl;
 }
 
 pub has_faults : HasFaults

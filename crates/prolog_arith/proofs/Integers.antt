@@ -38,7 +38,7 @@ suc_mod_cases n m = go (nat_eq (n % suc m) m) refl
         let apart : n % suc m ≢ m = grind (arith, nat_tests) in
         inl (suc-mod n (suc m) ∙ mod-eq_of_lt (omega arith))
 
-floored-positive : (a : ℤ) (m : ℕ) → floored a (pos (suc m)) ≡ int_div_euclid a (pos (suc m))
+pub floored-positive : (a : ℤ) (m : ℕ) → floored a (pos (suc m)) ≡ int_div_euclid a (pos (suc m))
 floored-positive a m = let no : nat_lt (suc m) 0 ≡ false = grind (arith, nat_tests) in rw no refl
 
 pub modulo-positive : (a : ℤ) (m : ℕ) → modulo a (pos (suc m)) ≡ int_rem_euclid a (pos (suc m))

@@ -1,7 +1,7 @@
--- What the quotients leave, which says what they are.
-use Rattle.std.specs.Prelude.{◌≡◌, ◌≢◌, ℕ, suc, ◌<◌, ℤ, pos, negsuc, ◌-ℤ◌, neg_ℤ, ◌≤ℤ◌, ◌<ℤ◌, unsigned_abs, FitsSigned}
+-- What the quotients and the shifts leave, which says what they are.
+use Rattle.std.specs.Prelude.{◌≡◌, ◌≢◌, ℕ, suc, ◌^◌, ◌<◌, ℤ, pos, negsuc, ◌+ℤ◌, ◌-ℤ◌, ◌*ℤ◌, neg_ℤ, ◌≤ℤ◌, ◌<ℤ◌, unsigned_abs, FitsSigned}
 use Rattle.std.specs.Int.{w64}
-use Rattle.prolog_arith.specs.Operations.{remainder, modulo}
+use Rattle.prolog_arith.specs.Operations.{remainder, modulo, shifted}
 use Rattle.prolog_arith.specs.declared.operation.Unary.TheVariants.{Complement}
 use Rattle.prolog_arith.specs.Arithmetic.{unary}
 
@@ -14,6 +14,11 @@ pub record RemainderIsSmall : Type 0 where
 pub record ModuloIsSmall : Type 0 where
   pub up : (a : ℤ) (m : ℕ) → (pos 0 ≤ℤ modulo a (pos (suc m))) × (modulo a (pos (suc m)) <ℤ pos (suc m))
   pub down : (a : ℤ) (m : ℕ) → (negsuc m <ℤ modulo a (negsuc m)) × (modulo a (negsuc m) ≤ℤ pos 0)
+
+-- a shift to the right is the one integer whose product with the power is a, or below it by less than the power
+pub record ShiftsAreFloors : Type 0 where
+  pub low : (a : ℤ) (b : ℕ) → (shifted a (negsuc b) *ℤ pos (2 ^ suc b)) ≤ℤ a
+  pub high : (a : ℤ) (b : ℕ) → a <ℤ ((shifted a (negsuc b) +ℤ pos 1) *ℤ pos (2 ^ suc b))
 
 -- each bit turned
 abbrev pub ComplementIsOpposite : Type 0

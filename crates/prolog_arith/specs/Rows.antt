@@ -37,10 +37,14 @@ pub record HasSums : Type 0 where
   pub opposite_over : of_one (codes "-") least ≡ overflow
   pub absolute : of_one (codes "abs") (negsuc 6) ≡ Is (pos 7)
   pub absolute_over : of_one (codes "abs") least ≡ overflow
+  pub absolute_above : of_one (codes "abs") (pos 7) ≡ Is (pos 7)
   pub sign : of_one (codes "sign") (negsuc 6) ≡ Is (negsuc 0)
+  pub sign_above : of_one (codes "sign") (pos 7) ≡ Is (pos 1)
   pub sign_zero : of_one (codes "sign") (pos 0) ≡ Is (pos 0)
   pub min : of_two (codes "min") (pos 2) (negsuc 4) ≡ Is (negsuc 4)
   pub max : of_two (codes "max") (pos 2) (negsuc 4) ≡ Is (pos 2)
+  pub min_turned : of_two (codes "min") (negsuc 4) (pos 2) ≡ Is (negsuc 4)
+  pub max_turned : of_two (codes "max") (negsuc 4) (pos 2) ≡ Is (pos 2)
 
 pub record HasDivisions : Type 0 where
   -- 7 // -2 and -7 // 2: toward zero
@@ -66,6 +70,11 @@ pub record HasBits : Type 0 where
   pub complement : of_one (codes "\\") (pos 0) ≡ Is (negsuc 0)
   pub both : of_two (codes "/\\") (negsuc 7) (pos 5) ≡ Is (pos 0)
   pub either : of_two (codes "\\/") (negsuc 7) (pos 5) ≡ Is (negsuc 2)
+  -- 12 /\ 10, -4 /\ 6, 12 \/ 10 and -8 \/ 12
+  pub both_above : of_two (codes "/\\") (pos 12) (pos 10) ≡ Is (pos 8)
+  pub both_below : of_two (codes "/\\") (negsuc 3) (pos 6) ≡ Is (pos 4)
+  pub either_above : of_two (codes "\\/") (pos 12) (pos 10) ≡ Is (pos 14)
+  pub either_below : of_two (codes "\\/") (negsuc 7) (pos 12) ≡ Is (negsuc 3)
 
 pub record HasShifts : Type 0 where
   pub left : of_two (codes "<<") (pos 1) (pos 62) ≡ Is (pos 0x4000_0000_0000_0000)
@@ -77,6 +86,12 @@ pub record HasShifts : Type 0 where
   pub right_negative : of_two (codes ">>") (negsuc 0) (pos 200) ≡ Is (negsuc 0)
   -- -1 >> 1: the floor
   pub right_floor : of_two (codes ">>") (negsuc 0) (pos 1) ≡ Is (negsuc 0)
+  -- 13 >> 2, -13 >> 2, -5 << 3, 13 << -2 and 1 >> -3
+  pub right_by_two : of_two (codes ">>") (pos 13) (pos 2) ≡ Is (pos 3)
+  pub right_floor_by_two : of_two (codes ">>") (negsuc 12) (pos 2) ≡ Is (negsuc 3)
+  pub left_by_three : of_two (codes "<<") (negsuc 4) (pos 3) ≡ Is (negsuc 39)
+  pub left_back_by_two : of_two (codes "<<") (pos 13) (negsuc 1) ≡ Is (pos 3)
+  pub right_back : of_two (codes ">>") (pos 1) (negsuc 2) ≡ Is (pos 8)
 
 -- shifts to the right by the least integer, so to the left by 2 ^ 63
 pub record HasFarShifts : Type 0 where

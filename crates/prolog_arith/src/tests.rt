@@ -81,6 +81,8 @@ fn divisions_have_values(rt: HostRuntime) -> Result<(), Want> {
         (b"*".as_slice(), -3, 4, -12),
         (b"min".as_slice(), 2, -5, -5),
         (b"max".as_slice(), 2, -5, 2),
+        (b"min".as_slice(), -5, 2, -5),
+        (b"max".as_slice(), -5, 2, 2),
         (b"//".as_slice(), 7, -2, -3),
         (b"//".as_slice(), -7, 2, -3),
         (b"rem".as_slice(), -7, 2, -1),
@@ -103,6 +105,10 @@ fn bits_and_shifts_have_values(rt: HostRuntime) -> Result<(), Want> {
     let rows = [
         (b"/\\".as_slice(), -8, 5, 0),
         (b"\\/".as_slice(), -8, 5, -3),
+        (b"/\\".as_slice(), 12, 10, 8),
+        (b"/\\".as_slice(), -4, 6, 4),
+        (b"\\/".as_slice(), 12, 10, 14),
+        (b"\\/".as_slice(), -8, 12, -4),
         (b"<<".as_slice(), 1, 62, 0x4000_0000_0000_0000),
         (b"<<".as_slice(), 0, 100000, 0),
         (b"<<".as_slice(), -1, 63, WHOLE_MIN),
@@ -110,6 +116,11 @@ fn bits_and_shifts_have_values(rt: HostRuntime) -> Result<(), Want> {
         (b">>".as_slice(), 1, 200, 0),
         (b">>".as_slice(), -1, 200, -1),
         (b">>".as_slice(), -1, 1, -1),
+        (b">>".as_slice(), 13, 2, 3),
+        (b">>".as_slice(), -13, 2, -4),
+        (b"<<".as_slice(), -5, 3, -40),
+        (b"<<".as_slice(), 13, -2, 3),
+        (b">>".as_slice(), 1, -3, 8),
         (b">>".as_slice(), 0, WHOLE_MIN, 0),
     ];
     for (name, left, right, expected) in rows {
@@ -124,7 +135,9 @@ fn one_operand_has_a_value(rt: HostRuntime) -> Result<(), Want> {
     let rows = [
         (b"-".as_slice(), 7, -7),
         (b"abs".as_slice(), -7, 7),
+        (b"abs".as_slice(), 7, 7),
         (b"sign".as_slice(), -7, -1),
+        (b"sign".as_slice(), 7, 1),
         (b"\\".as_slice(), 0, -1),
     ];
     for (name, operand, expected) in rows {

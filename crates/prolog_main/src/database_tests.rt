@@ -651,7 +651,7 @@ const DECLARED: [Row; 44] = [
 ];
 
 /// Words and updates of the database, and a row over it.
-type SizedRow = (u64, u64, Row);
+pub(crate) type SizedRow = (u64, u64, Row);
 
 // A database that is full.
 const FULL: [SizedRow; 11] = [
@@ -789,7 +789,7 @@ fn answers_where_there_is_no_room(rt: HostRuntime) {
 }
 
 /// What the program gives for this text and this goal.
-fn outcome_of<R: Threads + Wait + Sync>(
+pub(crate) fn outcome_of<R: Threads + Wait + Sync>(
     rt: &R,
     alloc: Global,
     text: &str,
@@ -818,7 +818,7 @@ fn letter(what: &What) -> char {
 }
 
 /// Whether the journal has these entries: the letter of each, and the engine that made it.
-fn has_entries(outcome: &Outcome, entries: &[(u32, char)]) -> bool {
+pub(crate) fn has_entries(outcome: &Outcome, entries: &[(u32, char)]) -> bool {
     let made = outcome.journal.items();
     if made.len() != entries.len() {
         return false;

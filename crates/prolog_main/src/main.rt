@@ -16,6 +16,8 @@ use std::process::ExitCode;
 #[cfg(test)]
 mod database_tests;
 #[cfg(test)]
+mod erasure_tests;
+#[cfg(test)]
 mod stream_tests;
 #[cfg(test)]
 mod tests;

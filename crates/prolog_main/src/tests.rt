@@ -4,7 +4,7 @@ ghost use Rattle.std.specs.Prelude.{◌<◌, ◌≤◌, ◌^◌};
 
 use journal_base::{Gate, OpenGate, Sizes};
 use prolog_session::{
-    MAX_TEXT, MemorySink, MemorySource, Sink, Source, SteadySink, SteadySource, top,
+    MAX_TEXT, MemorySink, MemorySource, STEP_BUDGET, Sink, Source, SteadySink, SteadySource, top,
 };
 use prolog_terms::Want;
 use std::alloc::Global;
@@ -341,7 +341,44 @@ const LOADS: [Row; 6] = [
     ),
 ];
 
-const RUNS: [Row; 27] = [
+const RUNS: [Row; 33] = [
+    // where a call looks: at eight arguments, and at four arguments of each
+    (
+        "r(f(a),1). r(f(b),2). r(g(a),3).\n",
+        &["r(f(a),X)"],
+        0,
+        "% goal 1\nX = 1.\n",
+    ),
+    (
+        "p(1,2,3,a). p(1,2,3,b).\n",
+        &["p(1,2,3,a)"],
+        0,
+        "% goal 1\ntrue.\n",
+    ),
+    (
+        "p(1,2,3,4,5,6,7,a). p(1,2,3,4,5,6,7,b).\n",
+        &["p(1,2,3,4,5,6,7,a)"],
+        0,
+        "% goal 1\ntrue.\n",
+    ),
+    (
+        "p(1,2,3,4,5,6,7,8,a). p(1,2,3,4,5,6,7,8,b).\n",
+        &["p(1,2,3,4,5,6,7,8,a)"],
+        0,
+        "% goal 1\ntrue ;\nfalse.\n",
+    ),
+    (
+        "p(f(1,2,3,a)). p(f(1,2,3,b)).\n",
+        &["p(f(1,2,3,a))"],
+        0,
+        "% goal 1\ntrue.\n",
+    ),
+    (
+        "p(f(1,2,3,4,a)). p(f(1,2,3,4,b)).\n",
+        &["p(f(1,2,3,4,a))"],
+        0,
+        "% goal 1\ntrue ;\nfalse.\n",
+    ),
     ("p(G) :- G.\n", &["p(X = a)"], 0, "% goal 1\nX = a.\n"),
     (
         "p :- X.\n",
@@ -1296,7 +1333,21 @@ const CAUGHT: [Row; 48] = [
 ];
 
 // Builtins on terms and arithmetic, each by its table in docs/LANGUAGE.md.
-const BUILTINS: [Row; 45] = [
+const BUILTINS: [Row; 47] = [
+    (
+        "",
+        &[
+            "A is 12 /\\ 10, B is 12 \\/ 10, C is -13 >> 2, D is abs(7), E is sign(7), F is min(-5,2), G is max(-5,2)",
+        ],
+        0,
+        "% goal 1\nA = 8, B = 14, C = -4, D = 7, E = 1, F = -5, G = 2.\n",
+    ),
+    (
+        "",
+        &["X = -5, X < 3, 1 > X, X =\\= 5, X >= -6, X =< -5"],
+        0,
+        "% goal 1\nX = -5.\n",
+    ),
     (
         "",
         &["X is 9223372036854775807 + 1"],
@@ -2303,19 +2354,36 @@ fn passes_of<R: Threads + Wait + Sync>(
     ))
 }
 
+/// A text, the words, and how often the gate is passed, and by which engine at which look the last time.
+type Passes = (&'static str, &'static [&'static str], (u64, u32, u64));
+
+const TWICE: &str = "p(a). p(a).";
+
+const BY_LOAD: &str = "p(a).\np(b).\n:- p(b).\n";
+
+const CHANGED: &str = ":- dynamic k/1.\nk(1).\nk(2).\n";
+
+// Where there was no look the last engine is 9 and the last look 0.
+const PASSES: [Passes; 12] = [
+    (TWICE, &["p(a)"], (1, 1, 1)),
+    (TWICE, &["p(b)"], (1, 1, 1)),
+    (TWICE, &["true"], (0, 9, 0)),
+    (TWICE, &["p(a), p(a)"], (3, 1, 3)),
+    (BY_LOAD, &[], (1, 0, 1)),
+    (BY_LOAD, &["p(a)"], (2, 1, 1)),
+    ("p(a).\n:- p(a).\n:- p(a).\n", &[], (2, 0, 1)),
+    (CHANGED, &["clause(k(1),true)"], (1, 1, 1)),
+    (CHANGED, &["retract(k(1)), retract(k(2))"], (2, 1, 2)),
+    (CHANGED, &["retractall(k(_))"], (1, 1, 1)),
+    (CHANGED, &["k(1), abolish(k/1)"], (2, 1, 2)),
+    (CHANGED, &["assertz(k(3)), retract(none(1))"], (0, 9, 0)),
+];
+
 #[test]
 fn each_look_passes_the_gate(rt: HostRuntime) {
-    let twice = b"p(a). p(a).".as_slice();
-    let load = b"p(a).\np(b).\n:- p(b).\n".as_slice();
-    for (text, words, passes) in [
-        (twice, ["p(a)"].as_slice(), (1, 1, 1)),
-        (twice, &["p(b)"], (1, 1, 1)),
-        (twice, &["true"], (0, 9, 0)),
-        (twice, &["p(a), p(a)"], (3, 1, 3)),
-        (load, &[], (1, 0, 1)),
-        (load, &["p(a)"], (2, 1, 1)),
-    ] {
-        assert_eq!(rt; passes_of(&rt, rt.alloc(), text, words), Ok(passes));
+    for row in &PASSES {
+        let passes = passes_of(&rt, rt.alloc(), row.0.as_bytes(), row.1);
+        assert_eq!(rt; passes, Ok(row.2), "{}", row.0);
     }
 }
 
@@ -2344,4 +2412,48 @@ const BUDGETS: [Row; 3] = [
 #[test]
 fn a_run_spends_its_budget(rt: HostRuntime) {
     expect_rows(&rt, rt.alloc(), &BUDGETS);
+}
+
+// Rows in which the next number, priority, operator table or byte would give another output.
+const EDGES: [Row; 6] = [
+    (
+        ":- op(699, xfx, eq).\n",
+        &["X = eq(a,b)"],
+        0,
+        "% goal 1\nX = a eq b.\n",
+    ),
+    (
+        ":- op(700, xfx, eq).\n",
+        &["X = eq(a,b)"],
+        0,
+        "% goal 1\nX = (a eq b).\n",
+    ),
+    (
+        "",
+        &["write((a:-b)), nl, writeq((a,b)), nl, write_canonical((a:-b)), nl"],
+        0,
+        "% goal 1\na:-b\na,b\n:-(a,b)\ntrue.\n",
+    ),
+    (
+        ":- initialization((writeq(eq(a,b)), nl)).\n:- op(700, xfx, eq).\n",
+        &[],
+        0,
+        "a eq b\n",
+    ),
+    ("", &["X = +"], 0, "% goal 1\nX = +.\n"),
+    ("", &["true % why"], 0, "% goal 1\ntrue.\n"),
+];
+
+#[test]
+fn edges_are_where_the_language_has_them(rt: HostRuntime) {
+    expect_rows(&rt, rt.alloc(), &EDGES);
+}
+
+#[test]
+fn the_limits_are_those_of_the_language(rt: HostRuntime) {
+    assert_eq!(rt;
+        (crate::SIZES.words, crate::SIZES.updates),
+        (16_777_216, 1_048_576)
+    );
+    assert_eq!(rt; (STEP_BUDGET, MAX_TEXT), (10_000_000, 67_108_864));
 }

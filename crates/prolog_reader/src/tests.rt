@@ -129,6 +129,12 @@ const OPERATORS: &str = "\
     [a=b,c]. => [1: ./2 =/2 a b ./2 c []]end¶\
     {a:-b}. => [1: {}/1 :-/2 a b]end¶\
     {a,b}. => [1: {}/1 ,/2 a b]end¶\
+    a+1<b*2. => [1: </2 +/2 a 1 */2 b 2]end¶\
+    a+1>=b. => [1: >=/2 +/2 a 1 b]end¶\
+    a/\\b+1. => [1: +/2 /\\/2 a b 1]end¶\
+    1+2<<3. => [1: +/2 1 <</2 2 3]end¶\
+    + 1. => [1!7]¶\
+    - \"a\". => [1: -/1 ./2 97 []]end¶\
     ";
 
 /// The rest of the grammar, in the same rows.
@@ -188,6 +194,8 @@ const MALFORMED: &str = "\
     a X. => [1!7]¶\
     a \"b\". => [1!7]¶\
     a [b]. => [1!7]¶\
+    a \\+ b. => [1!7]¶\
+    f(a dynamic b). => [1!7]¶\
     a= . => [1!7]¶\
     a, . => [1!7]¶\
     ,a. => [1!7]¶\
@@ -427,6 +435,22 @@ fn reads_declared_operators(rt: HostRuntime) {
         assert!(rt; declare(alloc, &mut ops, priority, kind, name), "{name}");
     }
     check_rows(&rt, alloc, &ops, DECLARED);
+}
+
+/// The same rows, where `-` is an infix operator alone.
+const NO_PREFIX_MINUS: &str = "\
+    \\ -1. => [1: \\/1 -1]end¶\
+    \\ -(1). => [1: \\/1 -/1 1]end¶\
+    \\ - 1. => [1: -/2 \\ 1]end¶\
+    - 1. => [1!7]¶\
+    ";
+
+#[test]
+fn reads_a_minus_that_is_no_prefix_operator(rt: HostRuntime) {
+    let alloc = rt.alloc();
+    let mut ops = Ops::initial(alloc).expect(&rt, "memory");
+    assert!(rt; declare(alloc, &mut ops, 0, OpKind::Fy, "-"));
+    check_rows(&rt, alloc, &ops, NO_PREFIX_MINUS);
 }
 
 fn repeated(

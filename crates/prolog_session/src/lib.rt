@@ -36,4 +36,5 @@ pub use source::{Got, Source};
 pub use standard::{StdSink, StdSource};
 pub use steady::{SteadySink, SteadySource};
 pub use texts::output;
+pub use words::STEP_BUDGET;
 pub use writing::{Written, write_all};

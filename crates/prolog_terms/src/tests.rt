@@ -3,9 +3,9 @@
 ghost use Rattle.std.specs.Prelude.{◌≤◌};
 
 use crate::{
-    Bytes, Clause, End, Entries, Entry, Fault, Indicator, Kind, Name, Names, Node, OpFault, OpKind,
-    Ops, Shown, ShownVariables, Term, Want, What, copy_clause, copy_entry, copy_indicator,
-    fault_term, term_indicator,
+    Bytes, Clause, End, Entries, Entry, Fault, Indicator, Infix, Kind, Name, Names, Node, OpFault,
+    OpKind, Ops, Prefix, Shown, ShownVariables, Term, Want, What, copy_clause, copy_entry,
+    copy_indicator, fault_term, term_indicator,
 };
 use std::alloc::Global;
 use std::cmp::Ordering;
@@ -202,6 +202,73 @@ fn priorities(ops: &Ops, name: &[u8]) -> (u16, u16, u16) {
         found.as_infix.map_or(0, |op| op.priority),
         found.as_postfix.map_or(0, |op| op.priority),
     )
+}
+
+/// Prefix operators of the first table: names, their priority, and the greatest that their operands may have.
+const PREFIXES: [(&str, u16, u16); 4] = [
+    (":- ?-", 1200, 1199),
+    ("dynamic discontiguous multifile initialization", 1150, 1149),
+    ("\\+", 900, 900),
+    ("- \\", 200, 200),
+];
+
+/// Infix ones: names, the greatest that their left operands may have, their priority, and the greatest of their right ones.
+const INFIXES: [(&str, u16, u16, u16); 9] = [
+    (":- -->", 1199, 1200, 1199),
+    (";", 1099, 1100, 1100),
+    ("->", 1049, 1050, 1050),
+    (",", 999, 1000, 1000),
+    (
+        "= \\= == \\== @< @=< @> @>= =.. is =:= =\\= < =< > >=",
+        699,
+        700,
+        699,
+    ),
+    ("+ - /\\ \\/", 500, 500, 499),
+    ("* / // rem mod << >>", 400, 400, 399),
+    ("**", 199, 200, 199),
+    ("^", 199, 200, 200),
+];
+
+#[test]
+fn the_first_table_has_these(rt: HostRuntime) {
+    let ops = Ops::initial(rt.alloc()).expect(&rt, "memory");
+    for (names, priority, operand) in PREFIXES {
+        for name in names.split(' ') {
+            let found = ops.definitions(name.as_bytes()).as_prefix;
+            assert!(rt; found == Some(Prefix { priority, operand }), "{name}");
+        }
+    }
+    for (names, left, priority, right) in INFIXES {
+        for name in names.split(' ') {
+            let found = ops.definitions(name.as_bytes()).as_infix;
+            assert!(rt;
+                found
+                    == Some(Infix {
+                        left,
+                        priority,
+                        right
+                    }),
+                "{name}"
+            );
+        }
+    }
+}
+
+/// Names that are operators of one class alone, or of none.
+#[test]
+fn the_first_table_has_no_others(rt: HostRuntime) {
+    let ops = Ops::initial(rt.alloc()).expect(&rt, "memory");
+    for name in "--> ; -> , = < =< > >= is + * / ** ^ /\\ << : | @ ! [] {} a".split(' ') {
+        let found = ops.definitions(name.as_bytes());
+        assert!(rt; found.as_prefix.is_none(), "{name}");
+        assert!(rt; found.as_postfix.is_none(), "{name}");
+    }
+    for name in "?- \\+ \\ dynamic initialization : | @ ! [] {} a".split(' ') {
+        let found = ops.definitions(name.as_bytes());
+        assert!(rt; found.as_infix.is_none(), "{name}");
+        assert!(rt; found.as_postfix.is_none(), "{name}");
+    }
 }
 
 #[test]

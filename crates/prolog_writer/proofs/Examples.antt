@@ -20,6 +20,7 @@ rows_spaces = record {
   parenthesis = refl;
   comma = refl;
   no_operator_comma = refl;
+  quote_before_a_letter = refl;
   quotes = refl;
 }
 
@@ -82,6 +83,13 @@ rows_names = record {
   point = refl;
   comma = refl;
   cut = refl;
+  mixed = refl;
+  symbols_all = refl;
+  points = refl;
+  comment_behind = refl;
+  accent_in_quotes = refl;
+  last_control = refl;
+  last_letters = refl;
 }
 
 rows_styles : HasStyles
@@ -103,6 +111,7 @@ rows_declared = record {
   both = refl;
   postfix_of_one = refl;
   postfix_twice = refl;
+  postfix_of_another = refl;
   postfix_nested = refl;
   prefix_inside = refl;
   equal_on_the_left = refl;

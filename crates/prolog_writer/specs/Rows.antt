@@ -64,6 +64,7 @@ pub record HasSpaces : Type 0 where
   pub parenthesis : whole (two (codes "=") a (two (codes ":-") b c)) ≡ codes "a= (b:-c)"
   pub comma : whole (two (codes ",") a (two (codes ":-") b c)) ≡ codes "a, (b:-c)"
   pub no_operator_comma : value (compound (codes "f") (more a (more (two (codes ":-") b c) none))) ≡ codes "f(a,(b:-c))"
+  pub quote_before_a_letter : value (two (codes "mod") (atom (codes "A")) b) ≡ codes "'A' mod b"
   pub quotes : value (two (codes "=..") (atom (codes "A")) (atom (codes "B"))) ≡ codes "('A'=..'B')"
 
 pub record HasParentheses : Type 0 where
@@ -117,6 +118,15 @@ pub record HasNames : Type 0 where
   pub point : value (atom (codes ".")) ≡ codes "'.'"
   pub comma : value (atom (codes ",")) ≡ codes "','"
   pub cut : value (atom (codes "!")) ≡ codes "!"
+  -- letters, digits and _ behind a small letter, and each symbol byte, stand without quotes; so do .. and what has /* in it
+  pub mixed : value (atom (codes "aB_9")) ≡ codes "aB_9"
+  pub symbols_all : value (atom (codes "+-*/\\^<>=~:.?@#&$")) ≡ codes "+-*/\\^<>=~:.?@#&$"
+  pub points : value (atom (codes "..")) ≡ codes ".."
+  pub comment_behind : value (atom (codes "+/*")) ≡ codes "+/*"
+  -- the bytes of a letter beyond 127 stand between quotes as they are
+  pub accent_in_quotes : value (atom (195 ∷ 169 ∷ 32 ∷ [])) ≡ 39 ∷ 195 ∷ 169 ∷ 32 ∷ 39 ∷ []
+  pub last_control : value (atom (31 ∷ [])) ≡ codes "'\\x1f\\'"
+  pub last_letters : value (atom (122 ∷ 128 ∷ 255 ∷ [])) ≡ 122 ∷ 128 ∷ 255 ∷ []
 
 pub record HasStyles : Type 0 where
   pub plain_name : plain (atom (codes "it's")) ≡ codes "it's"
@@ -139,6 +149,7 @@ pub record HasDeclared : Type 0 where
   pub both : under (one (codes "u") a) ≡ codes "u a"
   pub postfix_of_one : under (one (codes "p") a) ≡ codes "a p"
   pub postfix_twice : under (one (codes "p") (one (codes "p") a)) ≡ codes "(a p)p"
+  pub postfix_of_another : under (one (codes "q") (one (codes "p") a)) ≡ codes "(a p)q"
   pub postfix_nested : under (one (codes "q") (one (codes "q") a)) ≡ codes "a q q"
   pub prefix_inside : under (one (codes "q") (one (codes "-") a)) ≡ codes "(-a)q"
   pub equal_on_the_left : under (two (codes "-") (two (codes "#") a b) c) ≡ codes "(a#b)-c"

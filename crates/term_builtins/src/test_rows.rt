@@ -1,7 +1,7 @@
 // The rows of the tests: goals as words, which are their nodes in prefix order.
 
 /// Goals that hold and bind nothing.
-pub(crate) const HOLDING: [&str; 59] = [
+pub(crate) const HOLDING: [&str; 63] = [
     // terms that are one, or can't be made one
     "=/2 1 1",
     "=/2 f/1 a f/1 a",
@@ -67,10 +67,14 @@ pub(crate) const HOLDING: [&str; 59] = [
     ">=/2 2 2",
     "=:=/2 +/2 1 2 3",
     "=\\=/2 1 2",
+    "</2 -5 3",
+    ">/2 1 -2",
+    "=\\=/2 -1 1",
+    ">=/2 -1 -2",
 ];
 
 /// Goals that fail.
-pub(crate) const FAILING: [&str; 62] = [
+pub(crate) const FAILING: [&str; 64] = [
     // terms that can't be made one, or can
     "=/2 1 a",
     "=/2 f/1 a g/1 a",
@@ -139,6 +143,8 @@ pub(crate) const FAILING: [&str; 62] = [
     ">=/2 1 2",
     "=:=/2 1 2",
     "=\\=/2 2 2",
+    "=:=/2 -1 1",
+    "</2 3 -5",
 ];
 
 /// Goals that hold, and the same with the values of their variables.

@@ -6,5 +6,6 @@ pub mod Known
 pub mod Triangular
 pub mod Standing
 pub mod Sizes
+pub mod Pairs
 mod Cases
 mod Examples

@@ -1,6 +1,7 @@
 -- Laws of the most general unifier, case by case of the two terms.
-use Rattle.std.specs.Prelude.{◌≡◌, ◌≢◌, ◌↔◌, ℕ, ℤ, ◌<◌, true, false, List, Option, Some, None}
+use Rattle.std.specs.Prelude.{◌≡◌, ◌≢◌, ◌↔◌, ℕ, ℤ, ◌<◌, true, false, List, Option, Some, None, option_map, option_and_then}
 use Rattle.prolog_terms.specs.Tree.{Tree, Trees, variable, integer, atom, compound, none, more, count}
+use Rattle.prolog_terms.specs.Faults.{two}
 use Rattle.prolog_terms.specs.Substitutions.{substituted, occurs}
 use Rattle.term_unifier.specs.Unifier.{Unifies, IsUnifier, only, unifier}
 
@@ -20,6 +21,11 @@ UnifiesEach s (more t ts) (more u us) = Unifies s t u × UnifiesEach s ts us
 -- compounds of one name have the unifiers of their arguments
 abbrev pub Decomposition : Type 0
 Decomposition = (f : List ℕ) (ts us : Trees) (s : ℕ → Tree) → Unifies s (compound f ts) (compound f us) ↔ UnifiesEach s ts us
+
+-- two pairs are made one as the first pair is, and then what the second pair stands for by that
+abbrev pub InTurn : Type 0
+InTurn = (f : List ℕ) (a b c d : Tree)
+    → unifier (two f a c) (two f b d) ≡ option_and_then (λ m. option_map (λ n v. substituted n (m v)) (unifier (substituted m c) (substituted m d))) (unifier a b)
 
 -- pairs of terms that have the same unifiers have the same most general one
 abbrev pub SameUnifiers : Type 0

@@ -1,5 +1,5 @@
 // What the most general unifier is, case by case of the two terms.
-ghost use Rattle.term_unifier.specs.Laws.{UnifierIsMostGeneral, Decomposition, SameUnifiers, Elimination, YoungerToOlder, Identity, OccursCheck, Clash, Symmetry, Idempotence};
+ghost use Rattle.term_unifier.specs.Laws.{UnifierIsMostGeneral, Decomposition, InTurn, SameUnifiers, Elimination, YoungerToOlder, Identity, OccursCheck, Clash, Symmetry, Idempotence};
 ghost use Rattle.term_unifier.specs.Resolved.{BindingsUnify, BindingsStand, StepUnifies};
 ghost use Rattle.term_unifier.specs.Rows.{HasRows};
 
@@ -8,6 +8,7 @@ ghost use Rattle.term_unifier.specs.Rows.{HasRows};
 pub fn laws()
     ensures most_general { UnifierIsMostGeneral }
     ensures decomposition { Decomposition }
+    ensures in_turn { InTurn }
     ensures same_unifiers { SameUnifiers }
     ensures elimination { Elimination }
     ensures younger_to_older { YoungerToOlder }

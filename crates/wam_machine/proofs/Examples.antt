@@ -1,5 +1,5 @@
 -- The rows, computed.
-use Rattle.std.proofs.Common.{◌≡◌, ℕ, List, ◌∷◌, zero, suc, refl, [], subst, drop, Option, Some, None, sym, ◌∙◌, ap}
+use Rattle.std.proofs.Common.{◌≡◌, ℕ, Bool, true, false, List, ◌∷◌, zero, suc, refl, [], subst, drop, Option, Some, None, sym, ◌∙◌, ap}
 use Rattle.prolog_terms.specs.Faults.{error_tree, fault_tree}
 use Rattle.prolog_terms.specs.Tree.{Tree, variable, atom, compound}
 use Rattle.prolog_terms.specs.declared.entry.Entry.{Entry}
@@ -16,8 +16,8 @@ use Rattle.std.specs.Prelude.{codes, pos}
 use Rattle.term_unifier.specs.Unifier.{unifier}
 use Rattle.call_patterns.specs.Keys.{keys, could_match}
 use Rattle.wam_machine.specs.Control.{plain}
-use Rattle.wam_machine.specs.Machine.{calling_builtin, accessing, made_in, Setting, State, Report, Outcome, Goes, Ends, Unfit, Runs, ends, goes, move, beginning, Transcript}
-use Rattle.wam_machine.specs.Rows.{GivesIn, Gives, Refuses, Alone, changed, declares, adds, k, a_dynamic, a_static, asserta, assertz, asserta_one, assertz_one, static, HasRows, catches, finds, findall_three, either_y, y, nil, two, throws, halts, halts_with, catch_three, throw_one, halt_one, a, a_cut, a_loop, a_rule, any_between, b, both, c, call, called, closed, copied_number, copies, cut, denied, equal, failure, is_free, is_one, is_two, list_of, mem, members, number, on, once, one, one_and_more, one_or_two, one_pair, opened, or, p, repeats, then, three_facts, trees, truth, uncallable, x}
+use Rattle.wam_machine.specs.Machine.{calling_builtin, accessing, made_in, Setting, State, Report, Outcome, Goes, Ends, Unfit, Runs, ends, goes, move, beginning, Transcript, Misfits, unfit, later}
+use Rattle.wam_machine.specs.Rows.{IsUnfit, declared, two_dynamic, dynamic_rule, dynamic_pair, any_k, erases, inspects, retracts, retracts_all, abolishes, named, clause_two, retract_one, retract_all_one, abolish_one, private, GivesIn, Gives, Refuses, Alone, changed, declares, adds, k, a_dynamic, a_static, asserta, assertz, asserta_one, assertz_one, static, HasRows, catches, finds, findall_three, either_y, y, nil, two, throws, halts, halts_with, catch_three, throw_one, halt_one, a, a_cut, a_loop, a_rule, any_between, b, both, c, call, called, closed, copied_number, copies, cut, denied, equal, failure, is_free, is_one, is_two, list_of, mem, members, number, on, once, one, one_and_more, one_or_two, one_pair, opened, or, p, repeats, then, three_facts, trees, truth, uncallable, x}
 
 -- what a run gives within so many moves
 abbrev run_within : ℕ → Setting → State → Option Report
@@ -63,6 +63,40 @@ gives_in n x goal fronts events steps end h =
 gives : (n : ℕ) (j : Journal) (budget : ℕ) (goal : Tree) (shown : List Tree) (fronts : List ℕ) (events : List Event) (steps : ℕ) (end : RunEnd)
     → told (run_within n (on j budget shown) (beginning (on j budget shown) goal fronts)) ≡ wanted (on j budget shown) events steps end → Gives j budget goal shown fronts events steps end
 gives n j budget goal shown fronts events steps end h = gives_in n (on j budget shown) goal fronts events steps end h
+
+-- a run comes within so many moves to one that doesn't fit
+abbrev misfits_within : ℕ → Setting → State → Bool
+misfits_within zero x s = false
+misfits_within (suc n) x s = elim (move x s) [ Goes t ↦ misfits_within n x t | Ends r ↦ false | Unfit ↦ true ]
+
+unfit_next : (x : Setting) (n : ℕ) (s : State) → ((t : State) → misfits_within n x t ≡ true → Misfits x t) → (o : Outcome) → move x s ≡ o
+    → elim o [ Goes t ↦ misfits_within n x t | Ends r ↦ false | Unfit ↦ true ] ≡ true → Misfits x s
+unfit_next x n s next (Goes t) e h = later e (next t h)
+unfit_next x n s next (Ends r) e h = absurd (cc h)
+unfit_next x n s next Unfit e h = unfit e
+
+unfit_within : (x : Setting) (n : ℕ) (s : State) → misfits_within n x s ≡ true → Misfits x s
+unfit_within x zero s h = absurd (cc h)
+unfit_within x (suc n) s h = unfit_next x n s (λ t. unfit_within x n t) (move x s) refl h
+
+is_unfit : (j : Journal) (goal : Tree) (fronts : List ℕ) → misfits_within 60 (on j 100 []) (beginning (on j 100 []) goal fronts) ≡ true → IsUnfit j goal fronts
+is_unfit j goal fronts h = unfit_within (on j 100 []) 60 (beginning (on j 100 []) goal fronts) h
+
+row_front_left : IsUnfit [] truth (0 ∷ [])
+unfolding unifier keys could_match error_tree fault_tree plain calling_builtin
+row_front_left = is_unfit [] truth (0 ∷ []) refl
+
+row_front_missing : IsUnfit three_facts (p b) []
+unfolding unifier keys could_match error_tree fault_tree plain calling_builtin
+row_front_missing = is_unfit three_facts (p b) [] refl
+
+row_front_below : IsUnfit three_facts (p b) (3 ∷ [])
+unfolding unifier keys could_match error_tree fault_tree plain calling_builtin
+row_front_below = is_unfit three_facts (p b) (3 ∷ []) refl
+
+row_front_beyond : IsUnfit three_facts (p b) (5 ∷ [])
+unfolding unifier keys could_match error_tree fault_tree plain calling_builtin
+row_front_beyond = is_unfit three_facts (p b) (5 ∷ []) refl
 
 row_true_goal : Gives [] 100 truth [] [] (closed [] ∷ []) 1 Exhausted
 unfolding unifier keys could_match error_tree fault_tree plain calling_builtin
@@ -584,6 +618,146 @@ row_added_first : GivesIn (changed 1000 a_dynamic (adds Front 0 (k 2) ∷ []) (x
 unfolding unifier keys could_match error_tree fault_tree plain calling_builtin accessing is_reserved control of_terms of_texts of_numbers of_clauses clause_words need used
 row_added_first = gives_in 60 (changed 1000 a_dynamic (adds Front 0 (k 2) ∷ []) (x ∷ [])) (both (asserta (k 2)) (one (codes "k") x)) (2 ∷ 3 ∷ 3 ∷ []) (opened (number 2 ∷ []) ∷ is_one ∷ []) 3 Exhausted refl
 
+row_shown : GivesIn (changed 1000 a_dynamic [] (x ∷ y ∷ [])) (inspects any_k y) (2 ∷ []) (closed (number 1 ∷ truth ∷ []) ∷ []) 1 Exhausted
+unfolding unifier keys could_match error_tree fault_tree plain calling_builtin accessing is_reserved control of_terms of_texts of_numbers of_clauses clause_words need used
+row_shown = gives_in 60 (changed 1000 a_dynamic [] (x ∷ y ∷ [])) (inspects any_k y) (2 ∷ []) (closed (number 1 ∷ truth ∷ []) ∷ []) 1 Exhausted refl
+
+row_shown_body : GivesIn (changed 1000 dynamic_rule [] (y ∷ [])) (inspects (one (codes "g") a) y) (2 ∷ []) (closed (both (p a) (equal a b) ∷ []) ∷ []) 1 Exhausted
+unfolding unifier keys could_match error_tree fault_tree plain calling_builtin accessing is_reserved control of_terms of_texts of_numbers of_clauses clause_words need used
+row_shown_body = gives_in 60 (changed 1000 dynamic_rule [] (y ∷ [])) (inspects (one (codes "g") a) y) (2 ∷ []) (closed (both (p a) (equal a b) ∷ []) ∷ []) 1 Exhausted refl
+
+row_shown_no_body : GivesIn (changed 1000 dynamic_rule [] (x ∷ [])) (inspects (one (codes "g") x) truth) (2 ∷ []) [] 1 Exhausted
+unfolding unifier keys could_match error_tree fault_tree plain calling_builtin accessing is_reserved control of_terms of_texts of_numbers of_clauses clause_words need used
+row_shown_no_body = gives_in 60 (changed 1000 dynamic_rule [] (x ∷ [])) (inspects (one (codes "g") x) truth) (2 ∷ []) [] 1 Exhausted refl
+
+row_shown_each : GivesIn (changed 1000 two_dynamic [] (x ∷ [])) (inspects any_k truth) (3 ∷ []) (one_and_more ∷ is_two ∷ []) 2 Exhausted
+unfolding unifier keys could_match error_tree fault_tree plain calling_builtin accessing is_reserved control of_terms of_texts of_numbers of_clauses clause_words need used
+row_shown_each = gives_in 60 (changed 1000 two_dynamic [] (x ∷ [])) (inspects any_k truth) (3 ∷ []) (one_and_more ∷ is_two ∷ []) 2 Exhausted refl
+
+row_shown_undeclared : GivesIn (changed 1000 [] [] []) (inspects any_k y) (0 ∷ []) [] 1 Exhausted
+unfolding unifier keys could_match error_tree fault_tree plain calling_builtin accessing is_reserved control of_terms of_texts of_numbers of_clauses clause_words need used
+row_shown_undeclared = gives_in 60 (changed 1000 [] [] []) (inspects any_k y) (0 ∷ []) [] 1 Exhausted refl
+
+row_shown_static : Refuses a_static (inspects (atom (codes "foo")) y) (2 ∷ []) (private (codes "foo") 0) clause_two
+unfolding unifier keys could_match error_tree fault_tree plain calling_builtin accessing is_reserved control of_terms of_texts of_numbers of_clauses clause_words need used
+row_shown_static = gives_in 60 (changed 1000 a_static [] []) (inspects (atom (codes "foo")) y) (2 ∷ []) [] 1 (Ball (fault_tree (private (codes "foo") 0) clause_two)) refl
+
+row_shown_reserved : Refuses [] (inspects (one (codes "atom") x) y) [] (private (codes "atom") 1) clause_two
+unfolding unifier keys could_match error_tree fault_tree plain calling_builtin accessing is_reserved control of_terms of_texts of_numbers of_clauses clause_words need used
+row_shown_reserved = gives_in 60 (changed 1000 [] [] []) (inspects (one (codes "atom") x) y) [] [] 1 (Ball (fault_tree (private (codes "atom") 1) clause_two)) refl
+
+row_shown_unbound : Refuses [] (inspects x y) [] Instantiation clause_two
+unfolding unifier keys could_match error_tree fault_tree plain calling_builtin accessing is_reserved control of_terms of_texts of_numbers of_clauses clause_words need used
+row_shown_unbound = gives_in 60 (changed 1000 [] [] []) (inspects x y) [] [] 1 (Ball (fault_tree Instantiation clause_two)) refl
+
+row_shown_integer : Refuses [] (inspects (number 4) y) [] (OfType (codes "callable") (number 4)) clause_two
+unfolding unifier keys could_match error_tree fault_tree plain calling_builtin accessing is_reserved control of_terms of_texts of_numbers of_clauses clause_words need used
+row_shown_integer = gives_in 60 (changed 1000 [] [] []) (inspects (number 4) y) [] [] 1 (Ball (fault_tree (OfType (codes "callable") (number 4)) clause_two)) refl
+
+row_shown_unbound_first : Refuses [] (inspects x (number 4)) [] Instantiation clause_two
+unfolding unifier keys could_match error_tree fault_tree plain calling_builtin accessing is_reserved control of_terms of_texts of_numbers of_clauses clause_words need used
+row_shown_unbound_first = gives_in 60 (changed 1000 [] [] []) (inspects x (number 4)) [] [] 1 (Ball (fault_tree Instantiation clause_two)) refl
+
+row_shown_integer_body : Refuses [] (inspects any_k (number 4)) [] (OfType (codes "callable") (number 4)) clause_two
+unfolding unifier keys could_match error_tree fault_tree plain calling_builtin accessing is_reserved control of_terms of_texts of_numbers of_clauses clause_words need used
+row_shown_integer_body = gives_in 60 (changed 1000 [] [] []) (inspects any_k (number 4)) [] [] 1 (Ball (fault_tree (OfType (codes "callable") (number 4)) clause_two)) refl
+
+row_retracted : GivesIn (changed 1000 a_dynamic (erases 1 1 ∷ []) (x ∷ [])) (retracts any_k) (2 ∷ 3 ∷ []) (is_one ∷ []) 1 Exhausted
+unfolding unifier keys could_match error_tree fault_tree plain calling_builtin accessing is_reserved control of_terms of_texts of_numbers of_clauses clause_words need used
+row_retracted = gives_in 60 (changed 1000 a_dynamic (erases 1 1 ∷ []) (x ∷ [])) (retracts any_k) (2 ∷ 3 ∷ []) (is_one ∷ []) 1 Exhausted refl
+
+row_retracted_gone : GivesIn (changed 1000 a_dynamic (erases 2 1 ∷ []) (x ∷ [])) (retracts any_k) (2 ∷ 3 ∷ []) [] 1 Exhausted
+unfolding unifier keys could_match error_tree fault_tree plain calling_builtin accessing is_reserved control of_terms of_texts of_numbers of_clauses clause_words need used
+row_retracted_gone = gives_in 60 (changed 1000 a_dynamic (erases 2 1 ∷ []) (x ∷ [])) (retracts any_k) (2 ∷ 3 ∷ []) [] 1 Exhausted refl
+
+row_retracted_next : GivesIn (changed 1000 two_dynamic (erases 2 1 ∷ erases 1 2 ∷ []) (x ∷ [])) (retracts any_k) (3 ∷ 4 ∷ 5 ∷ []) (is_two ∷ []) 2 Exhausted
+unfolding unifier keys could_match error_tree fault_tree plain calling_builtin accessing is_reserved control of_terms of_texts of_numbers of_clauses clause_words need used
+row_retracted_next = gives_in 60 (changed 1000 two_dynamic (erases 2 1 ∷ erases 1 2 ∷ []) (x ∷ [])) (retracts any_k) (3 ∷ 4 ∷ 5 ∷ []) (is_two ∷ []) 2 Exhausted refl
+
+row_retracted_other : GivesIn (changed 1000 a_dynamic [] []) (retracts (two (codes ":-") any_k failure)) (2 ∷ []) [] 1 Exhausted
+unfolding unifier keys could_match error_tree fault_tree plain calling_builtin accessing is_reserved control of_terms of_texts of_numbers of_clauses clause_words need used
+row_retracted_other = gives_in 60 (changed 1000 a_dynamic [] []) (retracts (two (codes ":-") any_k failure)) (2 ∷ []) [] 1 Exhausted refl
+
+row_retracted_full : GivesIn (record (changed 30 a_dynamic [] []) { updates = 2 }) (retracts any_k) (2 ∷ 2 ∷ []) [] 1 (Ball (fault_tree (Resource (codes "database")) retract_one))
+unfolding unifier keys could_match error_tree fault_tree plain calling_builtin accessing is_reserved control of_terms of_texts of_numbers of_clauses clause_words need used
+row_retracted_full = gives_in 60 (record (changed 30 a_dynamic [] []) { updates = 2 }) (retracts any_k) (2 ∷ 2 ∷ []) [] 1 (Ball (fault_tree (Resource (codes "database")) retract_one)) refl
+
+row_retracted_exactly : GivesIn (record (changed 30 a_dynamic (erases 1 1 ∷ []) []) { updates = 3 }) (retracts any_k) (2 ∷ 3 ∷ []) (closed [] ∷ []) 1 Exhausted
+unfolding unifier keys could_match error_tree fault_tree plain calling_builtin accessing is_reserved control of_terms of_texts of_numbers of_clauses clause_words need used
+row_retracted_exactly = gives_in 60 (record (changed 30 a_dynamic (erases 1 1 ∷ []) []) { updates = 3 }) (retracts any_k) (2 ∷ 3 ∷ []) (closed [] ∷ []) 1 Exhausted refl
+
+row_retracted_called : GivesIn (changed 1000 a_dynamic (erases 1 1 ∷ []) (x ∷ [])) (both (retracts any_k) any_k) (2 ∷ 3 ∷ 3 ∷ []) [] 2 Exhausted
+unfolding unifier keys could_match error_tree fault_tree plain calling_builtin accessing is_reserved control of_terms of_texts of_numbers of_clauses clause_words need used
+row_retracted_called = gives_in 60 (changed 1000 a_dynamic (erases 1 1 ∷ []) (x ∷ [])) (both (retracts any_k) any_k) (2 ∷ 3 ∷ 3 ∷ []) [] 2 Exhausted refl
+
+row_retracted_static : Refuses a_static (retracts (atom (codes "foo"))) (2 ∷ []) (static (codes "foo") 0) retract_one
+unfolding unifier keys could_match error_tree fault_tree plain calling_builtin accessing is_reserved control of_terms of_texts of_numbers of_clauses clause_words need used
+row_retracted_static = gives_in 60 (changed 1000 a_static [] []) (retracts (atom (codes "foo"))) (2 ∷ []) [] 1 (Ball (fault_tree (static (codes "foo") 0) retract_one)) refl
+
+row_retracted_undeclared : GivesIn (changed 1000 [] [] []) (retracts (k 1)) (0 ∷ []) [] 1 Exhausted
+unfolding unifier keys could_match error_tree fault_tree plain calling_builtin accessing is_reserved control of_terms of_texts of_numbers of_clauses clause_words need used
+row_retracted_undeclared = gives_in 60 (changed 1000 [] [] []) (retracts (k 1)) (0 ∷ []) [] 1 Exhausted refl
+
+row_retracted_reserved : Refuses [] (retracts truth) [] (static (codes "true") 0) retract_one
+unfolding unifier keys could_match error_tree fault_tree plain calling_builtin accessing is_reserved control of_terms of_texts of_numbers of_clauses clause_words need used
+row_retracted_reserved = gives_in 60 (changed 1000 [] [] []) (retracts truth) [] [] 1 (Ball (fault_tree (static (codes "true") 0) retract_one)) refl
+
+row_swept : GivesIn (changed 1000 two_dynamic (erases 1 1 ∷ erases 1 2 ∷ []) (x ∷ [])) (retracts_all any_k) (3 ∷ 4 ∷ 5 ∷ []) (is_free ∷ []) 1 Exhausted
+unfolding unifier keys could_match error_tree fault_tree plain calling_builtin accessing is_reserved control of_terms of_texts of_numbers of_clauses clause_words need used
+row_swept = gives_in 60 (changed 1000 two_dynamic (erases 1 1 ∷ erases 1 2 ∷ []) (x ∷ [])) (retracts_all any_k) (3 ∷ 4 ∷ 5 ∷ []) (is_free ∷ []) 1 Exhausted refl
+
+row_swept_one : GivesIn (changed 1000 two_dynamic (erases 1 2 ∷ []) []) (retracts_all (k 2)) (3 ∷ 4 ∷ []) (closed [] ∷ []) 1 Exhausted
+unfolding unifier keys could_match error_tree fault_tree plain calling_builtin accessing is_reserved control of_terms of_texts of_numbers of_clauses clause_words need used
+row_swept_one = gives_in 60 (changed 1000 two_dynamic (erases 1 2 ∷ []) []) (retracts_all (k 2)) (3 ∷ 4 ∷ []) (closed [] ∷ []) 1 Exhausted refl
+
+row_swept_apart : GivesIn (changed 1000 dynamic_pair (erases 1 1 ∷ []) []) (retracts_all (two (codes "f") b x)) (2 ∷ 3 ∷ []) (closed [] ∷ []) 1 Exhausted
+unfolding unifier keys could_match error_tree fault_tree plain calling_builtin accessing is_reserved control of_terms of_texts of_numbers of_clauses clause_words need used
+row_swept_apart = gives_in 60 (changed 1000 dynamic_pair (erases 1 1 ∷ []) []) (retracts_all (two (codes "f") b x)) (2 ∷ 3 ∷ []) (closed [] ∷ []) 1 Exhausted refl
+
+row_swept_gone : GivesIn (changed 1000 two_dynamic (erases 2 1 ∷ erases 1 2 ∷ []) []) (retracts_all any_k) (3 ∷ 4 ∷ 5 ∷ []) (closed [] ∷ []) 1 Exhausted
+unfolding unifier keys could_match error_tree fault_tree plain calling_builtin accessing is_reserved control of_terms of_texts of_numbers of_clauses clause_words need used
+row_swept_gone = gives_in 60 (changed 1000 two_dynamic (erases 2 1 ∷ erases 1 2 ∷ []) []) (retracts_all any_k) (3 ∷ 4 ∷ 5 ∷ []) (closed [] ∷ []) 1 Exhausted refl
+
+row_swept_undeclared : GivesIn (changed 1000 [] (declares 1 (codes "k") 1 ∷ []) []) (retracts_all any_k) (0 ∷ 1 ∷ []) (closed [] ∷ []) 1 Exhausted
+unfolding unifier keys could_match error_tree fault_tree plain calling_builtin accessing is_reserved control of_terms of_texts of_numbers of_clauses clause_words need used
+row_swept_undeclared = gives_in 60 (changed 1000 [] (declares 1 (codes "k") 1 ∷ []) []) (retracts_all any_k) (0 ∷ 1 ∷ []) (closed [] ∷ []) 1 Exhausted refl
+
+row_swept_meanwhile : GivesIn (changed 1000 [] (declares 2 (codes "k") 1 ∷ []) []) (retracts_all (k 1)) (0 ∷ 1 ∷ []) (closed [] ∷ []) 1 Exhausted
+unfolding unifier keys could_match error_tree fault_tree plain calling_builtin accessing is_reserved control of_terms of_texts of_numbers of_clauses clause_words need used
+row_swept_meanwhile = gives_in 60 (changed 1000 [] (declares 2 (codes "k") 1 ∷ []) []) (retracts_all (k 1)) (0 ∷ 1 ∷ []) (closed [] ∷ []) 1 Exhausted refl
+
+row_swept_static_meanwhile : GivesIn (changed 1000 [] (declared (codes "k") 1 ∷ []) []) (retracts_all (k 1)) (0 ∷ 1 ∷ []) [] 1 (Ball (fault_tree (static (codes "k") 1) retract_all_one))
+unfolding unifier keys could_match error_tree fault_tree plain calling_builtin accessing is_reserved control of_terms of_texts of_numbers of_clauses clause_words need used
+row_swept_static_meanwhile = gives_in 60 (changed 1000 [] (declared (codes "k") 1 ∷ []) []) (retracts_all (k 1)) (0 ∷ 1 ∷ []) [] 1 (Ball (fault_tree (static (codes "k") 1) retract_all_one)) refl
+
+row_swept_static : Refuses a_static (retracts_all (atom (codes "foo"))) (2 ∷ []) (static (codes "foo") 0) retract_all_one
+unfolding unifier keys could_match error_tree fault_tree plain calling_builtin accessing is_reserved control of_terms of_texts of_numbers of_clauses clause_words need used
+row_swept_static = gives_in 60 (changed 1000 a_static [] []) (retracts_all (atom (codes "foo"))) (2 ∷ []) [] 1 (Ball (fault_tree (static (codes "foo") 0) retract_all_one)) refl
+
+row_abolished : GivesIn (changed 1000 two_dynamic (erases 1 1 ∷ erases 1 2 ∷ []) []) (both (abolishes (named (codes "k") (number 1))) any_k) (3 ∷ 4 ∷ 5 ∷ 5 ∷ []) [] 2 Exhausted
+unfolding unifier keys could_match error_tree fault_tree plain calling_builtin accessing is_reserved control of_terms of_texts of_numbers of_clauses clause_words need used
+row_abolished = gives_in 60 (changed 1000 two_dynamic (erases 1 1 ∷ erases 1 2 ∷ []) []) (both (abolishes (named (codes "k") (number 1))) any_k) (3 ∷ 4 ∷ 5 ∷ 5 ∷ []) [] 2 Exhausted refl
+
+row_abolished_undeclared : GivesIn (changed 1000 [] [] []) (abolishes (named (codes "k") (number 1))) (0 ∷ []) (closed [] ∷ []) 1 Exhausted
+unfolding unifier keys could_match error_tree fault_tree plain calling_builtin accessing is_reserved control of_terms of_texts of_numbers of_clauses clause_words need used
+row_abolished_undeclared = gives_in 60 (changed 1000 [] [] []) (abolishes (named (codes "k") (number 1))) (0 ∷ []) (closed [] ∷ []) 1 Exhausted refl
+
+row_abolished_static : Refuses a_static (abolishes (named (codes "foo") (number 0))) (2 ∷ []) (static (codes "foo") 0) abolish_one
+unfolding unifier keys could_match error_tree fault_tree plain calling_builtin accessing is_reserved control of_terms of_texts of_numbers of_clauses clause_words need used
+row_abolished_static = gives_in 60 (changed 1000 a_static [] []) (abolishes (named (codes "foo") (number 0))) (2 ∷ []) [] 1 (Ball (fault_tree (static (codes "foo") 0) abolish_one)) refl
+
+row_abolished_unbound : Refuses a_static (abolishes (named (codes "foo") x)) [] Instantiation abolish_one
+unfolding unifier keys could_match error_tree fault_tree plain calling_builtin accessing is_reserved control of_terms of_texts of_numbers of_clauses clause_words need used
+row_abolished_unbound = gives_in 60 (changed 1000 a_static [] []) (abolishes (named (codes "foo") x)) [] [] 1 (Ball (fault_tree Instantiation abolish_one)) refl
+
+row_abolished_no_arity : Refuses a_static (abolishes (named (codes "foo") a)) [] (OfType (codes "integer") a) abolish_one
+unfolding unifier keys could_match error_tree fault_tree plain calling_builtin accessing is_reserved control of_terms of_texts of_numbers of_clauses clause_words need used
+row_abolished_no_arity = gives_in 60 (changed 1000 a_static [] []) (abolishes (named (codes "foo") a)) [] [] 1 (Ball (fault_tree (OfType (codes "integer") a) abolish_one)) refl
+
+row_abolished_no_indicator : Refuses a_static (abolishes (atom (codes "foo"))) [] (OfType (codes "predicate_indicator") (atom (codes "foo"))) abolish_one
+unfolding unifier keys could_match error_tree fault_tree plain calling_builtin accessing is_reserved control of_terms of_texts of_numbers of_clauses clause_words need used
+row_abolished_no_indicator = gives_in 60 (changed 1000 a_static [] []) (abolishes (atom (codes "foo"))) [] [] 1 (Ball (fault_tree (OfType (codes "predicate_indicator") (atom (codes "foo"))) abolish_one)) refl
+
 pub has_rows : HasRows
 has_rows = record {
   true_goal = row_true_goal;
@@ -592,6 +766,10 @@ has_rows = record {
   middle = row_middle;
   through_a_rule = row_through_a_rule;
   budget_spent = row_budget_spent;
+  front_left = row_front_left;
+  front_missing = row_front_missing;
+  front_below = row_front_below;
+  front_beyond = row_front_beyond;
   occurring = row_occurring;
   two_free = row_two_free;
   undeclared = row_undeclared;
@@ -716,4 +894,39 @@ has_rows = record {
   added_called = row_added_called;
   added_meanwhile = row_added_meanwhile;
   added_first = row_added_first;
+  shown = row_shown;
+  shown_body = row_shown_body;
+  shown_no_body = row_shown_no_body;
+  shown_each = row_shown_each;
+  shown_undeclared = row_shown_undeclared;
+  shown_static = row_shown_static;
+  shown_reserved = row_shown_reserved;
+  shown_unbound = row_shown_unbound;
+  shown_integer = row_shown_integer;
+  shown_unbound_first = row_shown_unbound_first;
+  shown_integer_body = row_shown_integer_body;
+  retracted = row_retracted;
+  retracted_gone = row_retracted_gone;
+  retracted_next = row_retracted_next;
+  retracted_other = row_retracted_other;
+  retracted_full = row_retracted_full;
+  retracted_exactly = row_retracted_exactly;
+  retracted_called = row_retracted_called;
+  retracted_static = row_retracted_static;
+  retracted_undeclared = row_retracted_undeclared;
+  retracted_reserved = row_retracted_reserved;
+  swept = row_swept;
+  swept_one = row_swept_one;
+  swept_apart = row_swept_apart;
+  swept_gone = row_swept_gone;
+  swept_undeclared = row_swept_undeclared;
+  swept_meanwhile = row_swept_meanwhile;
+  swept_static_meanwhile = row_swept_static_meanwhile;
+  swept_static = row_swept_static;
+  abolished = row_abolished;
+  abolished_undeclared = row_abolished_undeclared;
+  abolished_static = row_abolished_static;
+  abolished_unbound = row_abolished_unbound;
+  abolished_no_arity = row_abolished_no_arity;
+  abolished_no_indicator = row_abolished_no_indicator;
 }

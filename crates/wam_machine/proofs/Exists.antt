@@ -1,32 +1,30 @@
 -- Each goal has a run.
-use Rattle.std.proofs.Common.{◌≡◌, ℕ, zero, suc, ◌+◌, ◌-◌, ◌<◌, ◌≤◌, List, [], ◌∷◌, ◌++◌, Bool, true, false, length, drop, map, refl, sym, ap, ap₂, ◌∙◌, subst, arith}
+use Rattle.std.proofs.Common.{◌≡◌, ℕ, zero, suc, ◌+◌, ◌-◌, ◌<◌, ◌≤◌, List, [], ◌∷◌, ◌++◌, Bool, true, false, drop, map, refl, sym, ap, ap₂, ◌∙◌, subst, arith}
 use Rattle.std.specs.Prelude.{pos, All, IfSome, Option, Some, None, ◌==◌, if◌then◌else◌, nat_lt, codes}
 use Rattle.std.proofs.lemmas.List.{append-nil, append_assoc, drop-append-le}
-use Rattle.std.proofs.lemmas.List.Elements.{All-head, All-append, filter-append, filter_map-append}
+use Rattle.std.proofs.lemmas.List.Elements.{All-head, All-append, filter-append}
 use Rattle.prolog_terms.specs.Operators.{Table}
 use Rattle.prolog_writer.specs.Pieces.{written}
 use Rattle.wam_machine.specs.declared.run.Event.TheVariants.{Wrote}
 use Rattle.prolog_terms.specs.Tree.{Tree, Trees, variable, integer, atom, compound, count}
 use Rattle.prolog_terms.specs.Substitutions.{renamed, substituted, numbered, beyond}
 use Rattle.prolog_terms.specs.Faults.{two, fault_tree}
-use Rattle.prolog_terms.specs.declared.entry.Clause.{Clause}
 use Rattle.prolog_terms.specs.declared.entry.Entry.{Entry}
 use Rattle.prolog_terms.specs.declared.entry.Indicator.{Indicator}
-use Rattle.prolog_terms.specs.declared.fault.Fault.TheVariants.{Representation, Existence, Instantiation}
-use Rattle.journals.specs.Journal.{Journal, number_of, added}
+use Rattle.prolog_terms.specs.declared.fault.Fault.TheVariants.{Representation, Instantiation}
+use Rattle.journals.specs.Journal.{Journal, added}
 use Rattle.journal_base.specs.View.{entries_by}
-use Rattle.call_patterns.specs.Keys.{keys}
 use Rattle.term_unifier.specs.Unifier.{unifier}
 use Rattle.wam_machine.specs.declared.run.RunEnd.{RunEnd}
 use Rattle.wam_machine.specs.declared.run.RunEnd.TheVariants.{Exhausted, Ball, Spent, Halted}
 use Rattle.prolog_terms.specs.Clauses.{body_of, call_term}
 use Rattle.term_builtins.specs.Meanings.{Meaning, Holds, Equates, Writes, Puts, Raises, list_tree}
 use Rattle.wam_machine.specs.Control.{Control, True, Fail, Cut, Repeat, Both, Either, IfElse, If, Not, Call, Once, Catch, Findall, Throw, Halt, HaltWith, Database, Builtin, User, control_of, with_added}
-use Rattle.wam_machine.specs.Machine.{Next, Do, ConditionEnd, NotEnd, CatchEnd, FindallEnd, Alternative, Clauses, Right, Again, NotMark, CatchMark, FindallMark, Choice, Mode, Going, Failing, Raising, Deed, Look, Looked, entry_in, made_in, State, Setting, Report, Outcome, Goes, Ends, over, stepping, onwards, pushed, height, cut_to, not_callable, answer, next_under, solving, numbering, body_from, leaving, trying, candidate_clauses, looked, called, calling, call_with, raises, running, calling_added, denying, catching, gathering, new_copies, behind_copies, found_at, throwing, halting, halt_with, not_integer, cut_back, active_catch, recovering, reaching, reached, caught, repeating, performing, doing, goal_move, going, back_to, taken, failing, raising, move, beginning, Runs, ends, goes, EachGoalRuns, CanBeDone, HasBody, IsWellMade, HasBodies, coming_to, calling_builtin}
+use Rattle.wam_machine.specs.Machine.{Next, Do, ConditionEnd, NotEnd, CatchEnd, FindallEnd, Alternative, Clauses, Right, Again, NotMark, CatchMark, FindallMark, Choice, Mode, Going, Failing, Raising, made_in, State, Setting, Report, Outcome, Goes, Ends, over, stepping, onwards, pushed, height, cut_to, not_callable, answer, next_under, solving, trying, call_with, raises, running, calling_added, denying, catching, gathering, new_copies, behind_copies, found_at, throwing, halting, halt_with, not_integer, cut_back, active_catch, recovering, reaching, reached, caught, repeating, performing, doing, goal_move, going, back_to, taken, failing, raising, move, beginning, Runs, ends, goes, EachGoalRuns, CanBeDone, HasBody, IsWellMade, HasBodies, coming_to, calling_builtin}
 use Rattle.wam_machine.proofs.WellMade.{HasParts, parts, goes-makes, begins-well}
 use Rattle.wam_machine.proofs.Laws.{Within, move-within}
 use Rattle.wam_machine.proofs.Settles.{Stops, Settles, stops, moves, settles}
-use Rattle.wam_machine.proofs.Growing.{at, on, Continues, continues-plain, taking-continues, accessing-continues, equal-most}
+use Rattle.wam_machine.proofs.Growing.{at, on, IsQuiet, Continues, calling-continues, trying-continues, accessing-continues}
 
 -- whichever journal it is and whichever fronts are to come, it goes on to one state, takes none of them and makes no entry
 record On (s : State) (o : Journal → List ℕ → Outcome) : Type 0 where
@@ -39,13 +37,9 @@ record On (s : State) (o : Journal → List ℕ → Outcome) : Type 0 where
 -- What a move does over a journal: it goes on and takes no front, whatever the journal is; it makes entries, takes fronts and goes on, by a
 -- step; or the run is over where no front is left.
 data Kind (x : Setting) (J : Journal) (s : State) (o : Journal → List ℕ → Outcome) : Type 0 where
-  stays : (t : State) → ((K : Journal) (fs : List ℕ) → o K fs ≡ Goes (at t fs)) → t.front ≤ length J → s.steps ≤ t.steps → made_in t.deeds ≡ made_in s.deeds → Kind x J s o
+  stays : (t : State) → ((K : Journal) (fs : List ℕ) → o K fs ≡ Goes (at t fs)) → IsQuiet x J t.front → s.steps ≤ t.steps → made_in t.deeds ≡ made_in s.deeds → Kind x J s o
   takes : Continues x J (record s { steps = suc s.steps }) o → Kind x J s o
   closes : (r : Report) → ((K : Journal) → o K [] ≡ Ends r) → made_in r.deeds ≡ made_in s.deeds → Kind x J s o
-
--- a look is no entry
-look_made : (deeds : List Deed) (look : Look) → made_in (deeds ++ Looked look ∷ []) ≡ made_in deeds
-look_made deeds look = filter_map-append entry_in deeds (Looked look ∷ []) ∙ append-nil (made_in deeds)
 
 solving-on : (new : List Next) (s : State) (o : Option (ℕ → Tree)) → On s (λ K fs. solving new (at s fs) o)
 unfolding at
@@ -67,23 +61,6 @@ coming_to-on ops i s (Raises fault) = record { next = record s { mode = Raising 
 builtin-on : (ops : Table) (row : ℕ) (args : Trees) (s : State) → On s (λ K fs. calling_builtin ops row args (at s fs))
 unfolding at calling_builtin
 builtin-on ops row args s = coming_to-on ops _ s _
-
-trying-on : (goal : Tree) (cs : List Clause) (s : State) → On s (λ K fs. trying goal cs (at s fs))
-unfolding at
-trying-on goal [] s = record { next = record s { mode = Failing }; goes_on = λ K fs. refl; front_is = refl; steps_is = refl; made_is = refl }
-trying-on goal (c ∷ []) s =
-    let k : On (numbering c (record s { tried = s.tried + 1 })) _ = solving-on (body_from s.fresh (height s) c) (numbering c (record s { tried = s.tried + 1 })) (unifier (renamed s.fresh c.head) goal) in
-    record { next = k.next; goes_on = k.goes_on; front_is = k.front_is; steps_is = k.steps_is; made_is = k.made_is }
-trying-on goal (c ∷ d ∷ ds) s =
-    let k : On (numbering c (leaving goal (d ∷ ds) (record s { tried = s.tried + 1 }))) _ = solving-on (body_from s.fresh (height s) c) (numbering c (leaving goal (d ∷ ds) (record s { tried = s.tried + 1 }))) (unifier (renamed s.fresh c.head) goal) in
-    record { next = k.next; goes_on = k.goes_on; front_is = k.front_is; steps_is = k.steps_is; made_is = k.made_is }
-
-called-on : (goal : Tree) (i : Indicator) (before : ℕ) (seen : Journal) (s : State) (o : Option ℕ) → On s (λ K fs. called goal i before seen (at s fs) o)
-unfolding at
-called-on goal i before seen s None = record { next = record s { mode = Raising (fault_tree (Existence i) i) }; goes_on = λ K fs. refl; front_is = refl; steps_is = refl; made_is = refl }
-called-on goal i before seen s (Some p) =
-    let k : On (looked before s p goal) _ = trying-on goal (candidate_clauses seen p (keys goal)) (looked before s p goal) in
-    record { next = k.next; goes_on = k.goes_on; front_is = k.front_is; steps_is = k.steps_is; made_is = k.made_is ∙ look_made s.deeds _ }
 
 running-on : (goal : Tree) (i : Indicator) (s : State) (o : Option Tree) → On s (λ K fs. running goal i (at s fs) o)
 unfolding at
@@ -133,25 +110,25 @@ module _ (x : Setting) (J : Journal) where
   over-kind s t e m = let k = over-closes s e in closes k.0 k.1 (k.2 ∙ m)
 
   -- a step, and then what takes no front
-  stepped-on : (s : State) (then_ : Journal → State → Outcome) → s.front ≤ length J → ((t : State) → On t (λ K fs. then_ K (at t fs))) → Kind x J s (λ K fs. stepping (on x K) (at s fs) (then_ K))
+  stepped-on : (s : State) (then_ : Journal → State → Outcome) → IsQuiet x J s.front → ((t : State) → On t (λ K fs. then_ K (at t fs))) → Kind x J s (λ K fs. stepping (on x K) (at s fs) (then_ K))
   unfolding at
-  stepped-on s then_ le k = go (s.steps == x.budget)
+  stepped-on s then_ quiet k = go (s.steps == x.budget)
     where
       go : (b : Bool) → Kind x J s (λ K fs. if b then over (on x K) (at s fs) (Spent s.steps) else then_ K (record s { steps = suc s.steps; fronts = fs }))
       go true = over-kind s s (Spent s.steps) refl
       go false =
           let h : On (record s { steps = suc s.steps }) (λ K fs. then_ K (record s { steps = suc s.steps; fronts = fs })) = k (record s { steps = suc s.steps }) in
-          stays h.next h.goes_on (subst (λ n. n ≤ length J) (sym h.front_is) le) (subst (λ n. s.steps ≤ n) (sym h.steps_is) (omega arith)) h.made_is
+          stays h.next h.goes_on (subst (IsQuiet x J) (sym h.front_is) quiet) (subst (λ n. s.steps ≤ n) (sym h.steps_is) (omega arith)) h.made_is
 
   -- a step, and then what may take fronts
-  stepped-takes : (s : State) (then_ : Journal → State → Outcome) → s.front ≤ length J → ((t : State) → t.front ≤ length J → Continues x J t (λ K fs. then_ K (at t fs)))
+  stepped-takes : (s : State) (then_ : Journal → State → Outcome) → IsQuiet x J s.front → ((t : State) → IsQuiet x J t.front → Continues x J t (λ K fs. then_ K (at t fs)))
       → Kind x J s (λ K fs. stepping (on x K) (at s fs) (then_ K))
   unfolding at
-  stepped-takes s then_ le k = go (s.steps == x.budget)
+  stepped-takes s then_ quiet k = go (s.steps == x.budget)
     where
       go : (b : Bool) → Kind x J s (λ K fs. if b then over (on x K) (at s fs) (Spent s.steps) else then_ K (record s { steps = suc s.steps; fronts = fs }))
       go true = over-kind s s (Spent s.steps) refl
-      go false = takes (k (record s { steps = suc s.steps }) le)
+      go false = takes (k (record s { steps = suc s.steps }) quiet)
 
   -- a step, and then the run's end
   stepped-over : (s : State) (e : RunEnd) (then_ : Journal → State → Outcome) → ((K : Journal) (t : State) → then_ K t ≡ over (on x K) t e) → Kind x J s (λ K fs. stepping (on x K) (at s fs) (then_ K))
@@ -162,20 +139,12 @@ module _ (x : Setting) (J : Journal) where
       go true = over-kind s s (Spent s.steps) refl
       go false = let h = over-closes (record s { steps = suc s.steps }) e in closes h.0 (λ K. k K (record s { steps = suc s.steps; fronts = [] }) ∙ h.1 K) h.2
 
-  halting-kind : (code : Tree) (s : State) → s.front ≤ length J → Kind x J s (λ K fs. stepping (on x K) (at s fs) (λ t. halting (on x K) code t))
+  halting-kind : (code : Tree) (s : State) → IsQuiet x J s.front → Kind x J s (λ K fs. stepping (on x K) (at s fs) (λ t. halting (on x K) code t))
   unfolding at
-  halting-kind (variable n) s le = stepped-on s (λ K t. halting (on x K) (variable n) t) le (λ t. record { next = record t { mode = Raising (fault_tree Instantiation halt_with) }; goes_on = λ K fs. refl; front_is = refl; steps_is = refl; made_is = refl })
-  halting-kind (integer z) s le = stepped-over s (Halted z) (λ K t. halting (on x K) (integer z) t) (λ K t. refl)
-  halting-kind (atom a) s le = stepped-on s (λ K t. halting (on x K) (atom a) t) le (λ t. record { next = record t { mode = Raising (fault_tree (not_integer (atom a)) halt_with) }; goes_on = λ K fs. refl; front_is = refl; steps_is = refl; made_is = refl })
-  halting-kind (compound g ts) s le = stepped-on s (λ K t. halting (on x K) (compound g ts) t) le (λ t. record { next = record t { mode = Raising (fault_tree (not_integer (compound g ts)) halt_with) }; goes_on = λ K fs. refl; front_is = refl; steps_is = refl; made_is = refl })
-
-  -- a call takes the journal's length
-  calling-continues : (goal : Tree) (i : Indicator) (s : State) → s.front ≤ length J → Continues x J s (λ K fs. calling (on x K) (at s fs) goal i)
-  unfolding at
-  calling-continues goal i s le =
-      let h : On (record s { front = length J }) (λ K fs. called goal i s.front J (record s { front = length J; fronts = fs }) (number_of J i)) = called-on goal i s.front J (record s { front = length J }) (number_of J i) in
-      taking-continues x J s (λ K seen t. called goal i s.front seen t (number_of seen i)) le
-      (continues-plain x J (record s { front = length J }) h.next (λ K fs. called goal i s.front J (record s { front = length J; fronts = fs }) (number_of J i)) h.goes_on (equal-most h.next.front (length J) h.front_is) h.steps_is h.made_is)
+  halting-kind (variable n) s quiet = stepped-on s (λ K t. halting (on x K) (variable n) t) quiet (λ t. record { next = record t { mode = Raising (fault_tree Instantiation halt_with) }; goes_on = λ K fs. refl; front_is = refl; steps_is = refl; made_is = refl })
+  halting-kind (integer z) s quiet = stepped-over s (Halted z) (λ K t. halting (on x K) (integer z) t) (λ K t. refl)
+  halting-kind (atom a) s quiet = stepped-on s (λ K t. halting (on x K) (atom a) t) quiet (λ t. record { next = record t { mode = Raising (fault_tree (not_integer (atom a)) halt_with) }; goes_on = λ K fs. refl; front_is = refl; steps_is = refl; made_is = refl })
+  halting-kind (compound g ts) s quiet = stepped-on s (λ K t. halting (on x K) (compound g ts) t) quiet (λ t. record { next = record t { mode = Raising (fault_tree (not_integer (compound g ts)) halt_with) }; goes_on = λ K fs. refl; front_is = refl; steps_is = refl; made_is = refl })
 
   moved : {o : Journal → List ℕ → Outcome} (s t : State) → t.steps ≡ s.steps → made_in t.deeds ≡ made_in s.deeds → Kind x J t o → Kind x J s o
   moved s t e d (stays u h l n m) = stays u h l (subst (λ k. k ≤ u.steps) e n) (m ∙ d)
@@ -192,101 +161,101 @@ module _ (x : Setting) (J : Journal) where
   })
   moved s t e d (closes r h m) = closes r h (m ∙ d)
 
-  doing-kind : (goal : Tree) (cut : ℕ) (s : State) (c : Control) → s.front ≤ length J → Kind x J s (λ K fs. doing (on x K) goal cut (at s fs) c)
+  doing-kind : (goal : Tree) (cut : ℕ) (s : State) (c : Control) → IsQuiet x J s.front → Kind x J s (λ K fs. doing (on x K) goal cut (at s fs) c)
   unfolding at
-  doing-kind goal cut s True le = stepped-on s (λ K. performing (on x K) goal cut True) le (λ t. record { next = t; goes_on = λ K fs. refl; front_is = refl; steps_is = refl; made_is = refl })
-  doing-kind goal cut s Fail le = stepped-on s (λ K. performing (on x K) goal cut Fail) le (λ t. record { next = record t { mode = Failing }; goes_on = λ K fs. refl; front_is = refl; steps_is = refl; made_is = refl })
-  doing-kind goal cut s Cut le = stepped-on s (λ K. performing (on x K) goal cut Cut) le (λ t. record { next = record t { stack = cut_to cut t.stack }; goes_on = λ K fs. refl; front_is = refl; steps_is = refl; made_is = refl })
-  doing-kind goal cut s Repeat le = stepped-on s (λ K. performing (on x K) goal cut Repeat) le (λ t. record { next = pushed Again t; goes_on = λ K fs. refl; front_is = refl; steps_is = refl; made_is = refl })
-  doing-kind goal cut s (Either l r) le = stepped-on s (λ K. performing (on x K) goal cut (Either l r)) le (λ t. record { next = record (pushed (Right r cut) t) { goals = Do l cut ∷ t.goals }; goes_on = λ K fs. refl; front_is = refl; steps_is = refl; made_is = refl })
-  doing-kind goal cut s (IfElse c d e) le = stepped-on s (λ K. performing (on x K) goal cut (IfElse c d e)) le (λ t. record { next = record (pushed (Right e cut) t) { goals = Do c (suc (height t)) ∷ ConditionEnd (height t) ∷ Do d cut ∷ t.goals }; goes_on = λ K fs. refl; front_is = refl; steps_is = refl; made_is = refl })
-  doing-kind goal cut s (If c d) le = stepped-on s (λ K. performing (on x K) goal cut (If c d)) le (λ t. record { next = record t { goals = Do c (height t) ∷ ConditionEnd (height t) ∷ Do d cut ∷ t.goals }; goes_on = λ K fs. refl; front_is = refl; steps_is = refl; made_is = refl })
-  doing-kind goal cut s (Once g) le = stepped-on s (λ K. performing (on x K) goal cut (Once g)) le (λ t. record { next = record t { goals = Do (two (codes "->") (call_term g) (atom (codes "true"))) cut ∷ t.goals }; goes_on = λ K fs. refl; front_is = refl; steps_is = refl; made_is = refl })
-  doing-kind goal cut s (Both l r) le = stays (record s { goals = Do l cut ∷ Do r cut ∷ s.goals }) (λ K fs. refl) le (omega arith) refl
-  doing-kind goal cut s (Not g) le = stepped-on s (λ K. performing (on x K) goal cut (Not g)) le (λ t. denying-on g t (body_of g))
-  doing-kind goal cut s (Call g added) le = stepped-on s (λ K. performing (on x K) goal cut (Call g added)) le (λ t. calling_added-on g added t)
-  doing-kind goal cut s (Catch g c r) le = stepped-on s (λ K. performing (on x K) goal cut (Catch g c r)) le (λ t. catching-on g c r t (body_of g))
-  doing-kind goal cut s (Findall t g l) le = stepped-on s (λ K. performing (on x K) goal cut (Findall t g l)) le (λ u. gathering-on t g l u (body_of g))
-  doing-kind goal cut s (Throw b) le = stepped-on s (λ K. performing (on x K) goal cut (Throw b)) le (λ t. throwing-on b t)
-  doing-kind goal cut s Halt le = stepped-over s (Halted (pos 0)) (λ K. performing (on x K) goal cut Halt) (λ K t. refl)
-  doing-kind goal cut s (HaltWith n) le = halting-kind n s le
-  doing-kind goal cut s (Builtin row args) le = stepped-on s (λ K. performing (on x K) goal cut (Builtin row args)) le (λ t. builtin-on x.ops row args t)
-  doing-kind goal cut s (Database a) le = stepped-takes s (λ K. performing (on x K) goal cut (Database a)) le (λ t l. accessing-continues x J a t l)
-  doing-kind goal cut s (User i) le = stepped-takes s (λ K. performing (on x K) goal cut (User i)) le (λ t l. calling-continues goal i t l)
+  doing-kind goal cut s True quiet = stepped-on s (λ K. performing (on x K) goal cut True) quiet (λ t. record { next = t; goes_on = λ K fs. refl; front_is = refl; steps_is = refl; made_is = refl })
+  doing-kind goal cut s Fail quiet = stepped-on s (λ K. performing (on x K) goal cut Fail) quiet (λ t. record { next = record t { mode = Failing }; goes_on = λ K fs. refl; front_is = refl; steps_is = refl; made_is = refl })
+  doing-kind goal cut s Cut quiet = stepped-on s (λ K. performing (on x K) goal cut Cut) quiet (λ t. record { next = record t { stack = cut_to cut t.stack }; goes_on = λ K fs. refl; front_is = refl; steps_is = refl; made_is = refl })
+  doing-kind goal cut s Repeat quiet = stepped-on s (λ K. performing (on x K) goal cut Repeat) quiet (λ t. record { next = pushed Again t; goes_on = λ K fs. refl; front_is = refl; steps_is = refl; made_is = refl })
+  doing-kind goal cut s (Either l r) quiet = stepped-on s (λ K. performing (on x K) goal cut (Either l r)) quiet (λ t. record { next = record (pushed (Right r cut) t) { goals = Do l cut ∷ t.goals }; goes_on = λ K fs. refl; front_is = refl; steps_is = refl; made_is = refl })
+  doing-kind goal cut s (IfElse c d e) quiet = stepped-on s (λ K. performing (on x K) goal cut (IfElse c d e)) quiet (λ t. record { next = record (pushed (Right e cut) t) { goals = Do c (suc (height t)) ∷ ConditionEnd (height t) ∷ Do d cut ∷ t.goals }; goes_on = λ K fs. refl; front_is = refl; steps_is = refl; made_is = refl })
+  doing-kind goal cut s (If c d) quiet = stepped-on s (λ K. performing (on x K) goal cut (If c d)) quiet (λ t. record { next = record t { goals = Do c (height t) ∷ ConditionEnd (height t) ∷ Do d cut ∷ t.goals }; goes_on = λ K fs. refl; front_is = refl; steps_is = refl; made_is = refl })
+  doing-kind goal cut s (Once g) quiet = stepped-on s (λ K. performing (on x K) goal cut (Once g)) quiet (λ t. record { next = record t { goals = Do (two (codes "->") (call_term g) (atom (codes "true"))) cut ∷ t.goals }; goes_on = λ K fs. refl; front_is = refl; steps_is = refl; made_is = refl })
+  doing-kind goal cut s (Both l r) quiet = stays (record s { goals = Do l cut ∷ Do r cut ∷ s.goals }) (λ K fs. refl) quiet (omega arith) refl
+  doing-kind goal cut s (Not g) quiet = stepped-on s (λ K. performing (on x K) goal cut (Not g)) quiet (λ t. denying-on g t (body_of g))
+  doing-kind goal cut s (Call g added) quiet = stepped-on s (λ K. performing (on x K) goal cut (Call g added)) quiet (λ t. calling_added-on g added t)
+  doing-kind goal cut s (Catch g c r) quiet = stepped-on s (λ K. performing (on x K) goal cut (Catch g c r)) quiet (λ t. catching-on g c r t (body_of g))
+  doing-kind goal cut s (Findall t g l) quiet = stepped-on s (λ K. performing (on x K) goal cut (Findall t g l)) quiet (λ u. gathering-on t g l u (body_of g))
+  doing-kind goal cut s (Throw b) quiet = stepped-on s (λ K. performing (on x K) goal cut (Throw b)) quiet (λ t. throwing-on b t)
+  doing-kind goal cut s Halt quiet = stepped-over s (Halted (pos 0)) (λ K. performing (on x K) goal cut Halt) (λ K t. refl)
+  doing-kind goal cut s (HaltWith n) quiet = halting-kind n s quiet
+  doing-kind goal cut s (Builtin row args) quiet = stepped-on s (λ K. performing (on x K) goal cut (Builtin row args)) quiet (λ t. builtin-on x.ops row args t)
+  doing-kind goal cut s (Database a) quiet = stepped-takes s (λ K. performing (on x K) goal cut (Database a)) quiet (λ t l. accessing-continues x J a t l)
+  doing-kind goal cut s (User i) quiet = stepped-takes s (λ K. performing (on x K) goal cut (User i)) quiet (λ t l. calling-continues x J goal i t l)
 
-  going-kind : (s : State) (gs : List Next) → All CanBeDone gs → s.front ≤ length J → Kind x J s (λ K fs. going (on x K) (at s fs) gs)
+  going-kind : (s : State) (gs : List Next) → All CanBeDone gs → IsQuiet x J s.front → Kind x J s (λ K fs. going (on x K) (at s fs) gs)
   unfolding at
-  going-kind s [] d le = stays (record s { mode = Failing; events = s.events ++ answer x s ∷ [] }) (λ K fs. refl) le (omega arith) refl
-  going-kind s (Do g cut ∷ rest) d le =
+  going-kind s [] d quiet = stays (record s { mode = Failing; events = s.events ++ answer x s ∷ [] }) (λ K fs. refl) quiet (omega arith) refl
+  going-kind s (Do g cut ∷ rest) d quiet =
       let k : (c : Control) × (control_of g ≡ Some c) × HasParts c = parts g (All-head CanBeDone (Do g cut) rest d) in
       subst (λ (o : Option Control). Kind x J s (λ K fs. goal_move (on x K) g cut (record s { goals = rest; fronts = fs }) o)) (sym k.1)
-      (moved s (record s { goals = rest }) refl refl (doing-kind g cut (record s { goals = rest }) k.0 le))
-  going-kind s (ConditionEnd h ∷ rest) d le = stays (record s { goals = rest; stack = cut_to h s.stack }) (λ K fs. refl) le (omega arith) refl
-  going-kind s (NotEnd h ∷ rest) d le = stays (record s { mode = Failing; goals = rest; stack = cut_to h s.stack }) (λ K fs. refl) le (omega arith) refl
-  going-kind s (FindallEnd t h ∷ rest) d le = stays (record s { mode = Failing; goals = rest; stack = found_at h (numbered t) s.stack }) (λ K fs. refl) le (omega arith) refl
-  going-kind s (CatchEnd h ∷ rest) d le = go (height s == h)
+      (moved s (record s { goals = rest }) refl refl (doing-kind g cut (record s { goals = rest }) k.0 quiet))
+  going-kind s (ConditionEnd h ∷ rest) d quiet = stays (record s { goals = rest; stack = cut_to h s.stack }) (λ K fs. refl) quiet (omega arith) refl
+  going-kind s (NotEnd h ∷ rest) d quiet = stays (record s { mode = Failing; goals = rest; stack = cut_to h s.stack }) (λ K fs. refl) quiet (omega arith) refl
+  going-kind s (FindallEnd t h ∷ rest) d quiet = stays (record s { mode = Failing; goals = rest; stack = found_at h (numbered t) s.stack }) (λ K fs. refl) quiet (omega arith) refl
+  going-kind s (CatchEnd h ∷ rest) d quiet = go (height s == h)
     where
       go : (b : Bool) → Kind x J s (λ K fs. Goes (if b then cut_back (h - 1) (record s { goals = rest; fronts = fs }) else record s { goals = rest; fronts = fs }))
-      go true = stays (record s { goals = rest; stack = cut_to (h - 1) s.stack }) (λ K fs. refl) le (omega arith) refl
-      go false = stays (record s { goals = rest }) (λ K fs. refl) le (omega arith) refl
+      go true = stays (record s { goals = rest; stack = cut_to (h - 1) s.stack }) (λ K fs. refl) quiet (omega arith) refl
+      go false = stays (record s { goals = rest }) (λ K fs. refl) quiet (omega arith) refl
 
-  solving-kind : (s t : State) (o : Option (ℕ → Tree)) → t.front ≤ length J → t.steps ≡ s.steps → made_in t.deeds ≡ made_in s.deeds → Kind x J s (λ K fs. solving [] (at t fs) o)
+  solving-kind : (s t : State) (o : Option (ℕ → Tree)) → IsQuiet x J t.front → t.steps ≡ s.steps → made_in t.deeds ≡ made_in s.deeds → Kind x J s (λ K fs. solving [] (at t fs) o)
   unfolding at
-  solving-kind s t None le e d = stays (record t { mode = Failing }) (λ K fs. refl) le (omega arith) d
-  solving-kind s t (Some m) le e d = stays (record t { goals = map (next_under m) t.goals; bindings = λ v. substituted m (t.bindings v) }) (λ K fs. refl) le (omega arith) d
+  solving-kind s t None quiet e d = stays (record t { mode = Failing }) (λ K fs. refl) quiet (omega arith) d
+  solving-kind s t (Some m) quiet e d = stays (record t { goals = map (next_under m) t.goals; bindings = λ v. substituted m (t.bindings v) }) (λ K fs. refl) quiet (omega arith) d
 
-  taken-kind : (s : State) (a : Alternative) → s.front ≤ length J → Kind x J s (λ K fs. taken (on x K) (at s fs) a)
+  taken-kind : (s : State) (a : Alternative) → IsQuiet x J s.front → Kind x J s (λ K fs. taken (on x K) (at s fs) a)
   unfolding at
-  taken-kind s (Clauses goal rest) le = stepped-on s (λ K. trying goal rest) le (λ t. trying-on goal rest t)
-  taken-kind s (Right goal cut) le = stepped-on s (λ K. onwards (Do goal cut ∷ [])) le (λ t. record { next = record t { goals = Do goal cut ∷ t.goals }; goes_on = λ K fs. refl; front_is = refl; steps_is = refl; made_is = refl })
-  taken-kind s Again le = stepped-on s (λ K. repeating) le (λ t. record { next = pushed Again t; goes_on = λ K fs. refl; front_is = refl; steps_is = refl; made_is = refl })
-  taken-kind s NotMark le = stays s (λ K fs. refl) le (omega arith) refl
-  taken-kind s (CatchMark c r) le = stays (record s { mode = Failing }) (λ K fs. refl) le (omega arith) refl
-  taken-kind s (FindallMark l f) le = solving-kind s (record s { fresh = behind_copies s.fresh f }) (unifier l (list_tree (new_copies s.fresh f))) le refl refl
+  taken-kind s (Clauses used goal rest) quiet = stepped-takes s (λ K. trying (on x K) used goal rest) quiet (λ t l. trying-continues x J t used goal rest l)
+  taken-kind s (Right goal cut) quiet = stepped-on s (λ K. onwards (Do goal cut ∷ [])) quiet (λ t. record { next = record t { goals = Do goal cut ∷ t.goals }; goes_on = λ K fs. refl; front_is = refl; steps_is = refl; made_is = refl })
+  taken-kind s Again quiet = stepped-on s (λ K. repeating) quiet (λ t. record { next = pushed Again t; goes_on = λ K fs. refl; front_is = refl; steps_is = refl; made_is = refl })
+  taken-kind s NotMark quiet = stays s (λ K fs. refl) quiet (omega arith) refl
+  taken-kind s (CatchMark c r) quiet = stays (record s { mode = Failing }) (λ K fs. refl) quiet (omega arith) refl
+  taken-kind s (FindallMark l f) quiet = solving-kind s (record s { fresh = behind_copies s.fresh f }) (unifier l (list_tree (new_copies s.fresh f))) quiet refl refl
 
-  failing-kind : (s : State) (st : List Choice) → s.front ≤ length J → Kind x J s (λ K fs. failing (on x K) (at s fs) st)
+  failing-kind : (s : State) (st : List Choice) → IsQuiet x J s.front → Kind x J s (λ K fs. failing (on x K) (at s fs) st)
   unfolding at
-  failing-kind s [] le = over-kind s s Exhausted refl
-  failing-kind s (c ∷ below) le = moved s (back_to s c below) refl refl (taken-kind (back_to s c below) c.what le)
+  failing-kind s [] quiet = over-kind s s Exhausted refl
+  failing-kind s (c ∷ below) quiet = moved s (back_to s c below) refl refl (taken-kind (back_to s c below) c.what quiet)
 
-  recovering-kind : (s t : State) (ball recovery : Tree) (o : Option (ℕ → Tree)) → t.front ≤ length J → t.steps ≡ s.steps → made_in t.deeds ≡ made_in s.deeds → Kind x J s (λ K fs. recovering ball recovery (at t fs) o)
+  recovering-kind : (s t : State) (ball recovery : Tree) (o : Option (ℕ → Tree)) → IsQuiet x J t.front → t.steps ≡ s.steps → made_in t.deeds ≡ made_in s.deeds → Kind x J s (λ K fs. recovering ball recovery (at t fs) o)
   unfolding at
-  recovering-kind s t ball recovery None le e d = stays (record t { mode = Raising ball }) (λ K fs. refl) le (omega arith) d
-  recovering-kind s t ball recovery (Some m) le e d =
-      stays (record t { goals = map (next_under m) (Do (call_term recovery) (height t) ∷ t.goals); bindings = λ v. substituted m (t.bindings v) }) (λ K fs. refl) le (omega arith) d
+  recovering-kind s t ball recovery None quiet e d = stays (record t { mode = Raising ball }) (λ K fs. refl) quiet (omega arith) d
+  recovering-kind s t ball recovery (Some m) quiet e d =
+      stays (record t { goals = map (next_under m) (Do (call_term recovery) (height t) ∷ t.goals); bindings = λ v. substituted m (t.bindings v) }) (λ K fs. refl) quiet (omega arith) d
 
-  reaching-kind : (s : State) (ball : Tree) (below : List Choice) (c : Choice) (a : Alternative) → s.front ≤ length J → Kind x J s (λ K fs. reaching ball (at s fs) below c a)
+  reaching-kind : (s : State) (ball : Tree) (below : List Choice) (c : Choice) (a : Alternative) → IsQuiet x J s.front → Kind x J s (λ K fs. reaching ball (at s fs) below c a)
   unfolding at
-  reaching-kind s ball below c (CatchMark catcher recovery) le =
-      recovering-kind s (record (back_to s c below) { fresh = s.fresh + beyond ball }) ball recovery (unifier (renamed s.fresh ball) catcher) le refl refl
-  reaching-kind s ball below c (Clauses goal rest) le = stays (record s { stack = below }) (λ K fs. refl) le (omega arith) refl
-  reaching-kind s ball below c (Right goal cut) le = stays (record s { stack = below }) (λ K fs. refl) le (omega arith) refl
-  reaching-kind s ball below c Again le = stays (record s { stack = below }) (λ K fs. refl) le (omega arith) refl
-  reaching-kind s ball below c NotMark le = stays (record s { stack = below }) (λ K fs. refl) le (omega arith) refl
-  reaching-kind s ball below c (FindallMark l f) le = stays (record s { stack = below }) (λ K fs. refl) le (omega arith) refl
+  reaching-kind s ball below c (CatchMark catcher recovery) quiet =
+      recovering-kind s (record (back_to s c below) { fresh = s.fresh + beyond ball }) ball recovery (unifier (renamed s.fresh ball) catcher) quiet refl refl
+  reaching-kind s ball below c (Clauses used goal rest) quiet = stays (record s { stack = below }) (λ K fs. refl) quiet (omega arith) refl
+  reaching-kind s ball below c (Right goal cut) quiet = stays (record s { stack = below }) (λ K fs. refl) quiet (omega arith) refl
+  reaching-kind s ball below c Again quiet = stays (record s { stack = below }) (λ K fs. refl) quiet (omega arith) refl
+  reaching-kind s ball below c NotMark quiet = stays (record s { stack = below }) (λ K fs. refl) quiet (omega arith) refl
+  reaching-kind s ball below c (FindallMark l f) quiet = stays (record s { stack = below }) (λ K fs. refl) quiet (omega arith) refl
 
-  reached-kind : (s : State) (ball : Tree) (st : List Choice) → s.front ≤ length J → Kind x J s (λ K fs. reached (on x K) ball (at s fs) st)
+  reached-kind : (s : State) (ball : Tree) (st : List Choice) → IsQuiet x J s.front → Kind x J s (λ K fs. reached (on x K) ball (at s fs) st)
   unfolding at
-  reached-kind s ball [] le = over-kind s s (Ball ball) refl
-  reached-kind s ball (c ∷ below) le = reaching-kind s ball below c c.what le
+  reached-kind s ball [] quiet = over-kind s s (Ball ball) refl
+  reached-kind s ball (c ∷ below) quiet = reaching-kind s ball below c c.what quiet
 
-  caught-kind : (s : State) (ball : Tree) (o : Option ℕ) → s.front ≤ length J → Kind x J s (λ K fs. caught (on x K) ball (at s fs) o)
+  caught-kind : (s : State) (ball : Tree) (o : Option ℕ) → IsQuiet x J s.front → Kind x J s (λ K fs. caught (on x K) ball (at s fs) o)
   unfolding at
-  caught-kind s ball None le = over-kind s s (Ball ball) refl
-  caught-kind s ball (Some h) le = go (nat_lt h (height s))
+  caught-kind s ball None quiet = over-kind s s (Ball ball) refl
+  caught-kind s ball (Some h) quiet = go (nat_lt h (height s))
     where
       go : (b : Bool) → Kind x J s (λ K fs. if b then Goes (cut_back h (record s { fronts = fs })) else reached (on x K) ball (record s { fronts = fs }) s.stack)
-      go true = stays (record s { stack = cut_to h s.stack }) (λ K fs. refl) le (omega arith) refl
-      go false = reached-kind s ball s.stack le
+      go true = stays (record s { stack = cut_to h s.stack }) (λ K fs. refl) quiet (omega arith) refl
+      go false = reached-kind s ball s.stack quiet
 
-  move-kind : (s : State) → IsWellMade s → s.front ≤ length J → Kind x J s (λ K fs. move (on x K) (at s fs))
+  move-kind : (s : State) → IsWellMade s → IsQuiet x J s.front → Kind x J s (λ K fs. move (on x K) (at s fs))
   unfolding at
-  move-kind s w le = go s.mode
+  move-kind s w quiet = go s.mode
     where
       go : (m : Mode) → Kind x J s (λ K fs. elim m [ Going ↦ going (on x K) (at s fs) s.goals | Failing ↦ failing (on x K) (at s fs) s.stack | Raising ball ↦ raising (on x K) (at s fs) ball ])
-      go Going = going-kind s s.goals w.goals le
-      go Failing = failing-kind s s.stack le
-      go (Raising ball) = caught-kind s ball (active_catch s.goals) le
+      go Going = going-kind s s.goals w.goals quiet
+      go Failing = failing-kind s s.stack quiet
+      go (Raising ball) = caught-kind s ball (active_catch s.goals) quiet
 
 -- ---- whole runs
 
@@ -294,7 +263,7 @@ module _ (x : Setting) (J : Journal) where
 record IsFit (x : Setting) (J : Journal) (s : State) : Type 0 where
   bodies : HasBodies J
   made_well : IsWellMade s
-  front : s.front ≤ length J
+  front : IsQuiet x J s.front
   within : s.steps ≤ x.budget
 
 -- a run from the state, over the journal with the run's updates behind it
@@ -312,7 +281,7 @@ module _ (x : Setting) where
 
   next-within : (K : Journal) (s t : State) (fs gs : List ℕ) → s.steps ≤ x.budget → move (on x K) (at s fs) ≡ Goes (at t gs) → t.steps ≤ x.budget
   unfolding at
-  next-within K s t fs gs le e = let P : Outcome → Type 0 = λ o. Within x.budget o in subst P e (move-within (on x K) (at s fs) le)
+  next-within K s t fs gs quiet e = let P : Outcome → Type 0 = λ o. Within x.budget o in subst P e (move-within (on x K) (at s fs) quiet)
 
   next-well : (K : Journal) (s t : State) (fs gs : List ℕ) → HasBodies K → IsWellMade s → move (on x K) (at s fs) ≡ Goes (at t gs) → IsWellMade t
   unfolding at
@@ -320,7 +289,7 @@ module _ (x : Setting) where
       let h : IsWellMade (at t gs) = goes-makes (on x K) (at s fs) (at t gs) b (record { goals = w.goals; stack = w.stack }) e in
       record { goals = h.goals; stack = h.stack }
 
-  stays-fit : (J : Journal) (s t : State) → IsFit x J s → move (on x J) (at s []) ≡ Goes (at t []) → t.front ≤ length J → IsFit x J t
+  stays-fit : (J : Journal) (s t : State) → IsFit x J s → move (on x J) (at s []) ≡ Goes (at t []) → IsQuiet x J t.front → IsFit x J t
   stays-fit J s t i e l = record { bodies = i.bodies; made_well = next-well J s t [] [] i.bodies i.made_well e; front = l; within = next-within J s t [] [] i.within e }
 
   stays-found : (J : Journal) (s t : State) → ((K : Journal) (fs : List ℕ) → move (on x K) (at s fs) ≡ Goes (at t fs)) → made_in t.deeds ≡ made_in s.deeds → Found x J t → Found x J s
@@ -421,7 +390,7 @@ each_runs x goal bodies none le = (f.made, (f.fronts, (f.report, record { runs =
     first = beginning x goal []
 
     fits : IsFit x x.journal first
-    fits = record { bodies = bodies; made_well = begins-well x goal []; front = le; within = omega arith }
+    fits = record { bodies = bodies; made_well = begins-well x goal []; front = record { below = le; others = none }; within = omega arith }
 
     f : Found x x.journal first
     f = found x (suc x.budget) x.journal first fits (omega arith)

@@ -1,6 +1,6 @@
 -- Where the goal of a `findall` has an answer, its mark is on the stack.
 use Rattle.std.proofs.Common.{◌≡◌, ℕ, zero, suc, ◌+◌, ◌-◌, ◌<◌, ◌≤◌, List, [], ◌∷◌, ◌++◌, Bool, true, false, length, drop, take, map, refl, sym, ap, ◌∙◌, subst, arith, length-drop, drop-drop}
-use Rattle.std.specs.Prelude.{pos, Option, Some, None, ◌==◌, ◌&&◌, if◌then◌else◌, nat_le, nat_lt, codes}
+use Rattle.std.specs.Prelude.{pos, Option, Some, None, ◌==◌, ◌&&◌, if◌then◌else◌, nat_lt, codes}
 use Rattle.prolog_terms.specs.Operators.{Table}
 use Rattle.prolog_terms.specs.Tree.{Tree, Trees, variable, integer, atom, compound, count}
 use Rattle.prolog_terms.specs.Clauses.{body_of, call_term}
@@ -8,17 +8,16 @@ use Rattle.prolog_terms.specs.Substitutions.{renamed, numbered, beyond}
 use Rattle.prolog_terms.specs.declared.entry.Clause.{Clause}
 use Rattle.prolog_terms.specs.declared.entry.Indicator.{Indicator}
 use Rattle.prolog_terms.specs.declared.fault.Fault.TheVariants.{Representation}
-use Rattle.journals.specs.Journal.{Journal, number_of}
 use Rattle.call_patterns.specs.Keys.{keys}
 use Rattle.term_unifier.specs.Unifier.{unifier}
 use Rattle.term_builtins.specs.Meanings.{Meaning, Holds as Held, Equates, Writes, Puts, Raises, list_tree}
-use Rattle.wam_machine.specs.Control.{Control, True, Fail, Cut, Repeat, Both, Either, IfElse, If, Not, Call, Once, Catch, Findall, Throw, Halt, HaltWith, Database, Builtin, User, control_of, with_added, is_true_atom}
+use Rattle.wam_machine.specs.Control.{Access, Control, True, Fail, Cut, Repeat, Both, Either, IfElse, If, Not, Call, Once, Catch, Findall, Throw, Halt, HaltWith, Database, Builtin, User, control_of, with_added, is_true_atom}
 use Rattle.wam_machine.specs.Found.{is_findall, HasFindall, FindallsHaveMarks}
 use Rattle.wam_machine.proofs.FoundAt.{found-length, found-cut}
 use Rattle.wam_machine.specs.declared.run.RunEnd.{RunEnd}
 use Rattle.wam_machine.specs.declared.run.RunEnd.TheVariants.{Exhausted, Ball, Spent, Halted}
-use Rattle.wam_machine.specs.Machine.{Next, Do, ConditionEnd, NotEnd, CatchEnd, FindallEnd, Alternative, Clauses, Right, Again, NotMark, CatchMark, FindallMark, Choice, Mode, Going, Failing, Raising, State, Setting, Outcome, Goes, Ends, Unfit, no_more, over, stepping, onwards, pushed, height, cut_to, cut_back, next_under, solving, numbering, body_from, entering, leaving, trying, candidate_clauses, looked, called, calling, call_with, raises, running, calling_added, denying, catching, gathering, gathered, new_copies, behind_copies, with_found, found_at, throwing, halting, repeating, performing, doing, goal_move, going, back_to, taken, failing, active_catch, catching_ball, recovering, reaching, reached, caught, raising, move, beginning, Reaches, here, further, coming_to, calling_builtin, accessing}
-use Rattle.wam_machine.proofs.Accessed.{GoesBeside, accessing-beside}
+use Rattle.wam_machine.specs.Machine.{Use, Enter, Match, Candidate, Next, Do, ConditionEnd, NotEnd, CatchEnd, FindallEnd, Alternative, Clauses, Right, Again, NotMark, CatchMark, FindallMark, Choice, Mode, Going, Failing, Raising, State, Setting, Outcome, Goes, Ends, Unfit, no_more, over, stepping, onwards, pushed, height, cut_to, cut_back, next_under, solving, numbering, body_from, side_of_clause, side_of_call, first_goals, entering, leaving, trying, candidate_clauses, calling, call_with, raises, running, calling_added, denying, catching, gathering, gathered, new_copies, behind_copies, with_found, found_at, throwing, halting, repeating, performing, doing, goal_move, going, back_to, taken, failing, active_catch, catching_ball, recovering, reaching, reached, caught, raising, move, beginning, Reaches, here, further, coming_to, calling_builtin, accessing}
+use Rattle.wam_machine.proofs.Lasting.{IsNear, meeting-lasts, calling-lasts, accessing-lasts}
 
 -- ---- what holds of a state
 
@@ -41,7 +40,7 @@ Nested st (CatchEnd h ∷ rest) = (low rest < h) × Nested st rest
 Nested st (FindallEnd t h ∷ rest) = (low rest < h) × (HasFindall h st × Nested st rest)
 
 abbrev Fits : Alternative → List Next → Type 0
-Fits (Clauses goal rest) gs = Unit {0}
+Fits (Clauses used goal rest) gs = Unit {0}
 Fits (Right goal cut) gs = low gs ≤ cut
 Fits Again gs = Unit {0}
 Fits NotMark gs = Unit {0}
@@ -142,7 +141,7 @@ stacked-drop (suc n) (c ∷ st) h = stacked-drop n st h.1.1
 -- ---- one more copy that is found
 
 found-findall : (copy : Tree) (a : Alternative) → is_findall (with_found copy a) ≡ is_findall a
-found-findall copy (Clauses goal rest) = refl
+found-findall copy (Clauses used goal rest) = refl
 found-findall copy (Right goal cut) = refl
 found-findall copy Again = refl
 found-findall copy NotMark = refl
@@ -165,7 +164,7 @@ nested-found h copy st (CatchEnd k ∷ rest) n = (n.0, nested-found h copy st re
 nested-found h copy st (FindallEnd t k ∷ rest) n = (n.0, (mark-found h copy k st n.1.0, nested-found h copy st rest n.1.1))
 
 fits-found : (copy : Tree) (a : Alternative) (gs : List Next) → Fits a gs → Fits (with_found copy a) gs
-fits-found copy (Clauses goal rest) gs f = f
+fits-found copy (Clauses used goal rest) gs f = f
 fits-found copy (Right goal cut) gs f = f
 fits-found copy Again gs f = f
 fits-found copy NotMark gs f = f
@@ -225,31 +224,34 @@ body-nested from cut c st gs l h = go (is_true_atom c.body)
     go true = h
     go false = (l, h)
 
-entering-kept : (goal : Tree) (c : Clause) (from cut : ℕ) (s : State) → low s.goals ≤ cut → Holds s → Kept (entering goal c from cut s)
-entering-kept goal c from cut s l h = solving-kept (body_from from cut c) s (unifier (renamed from c.head) goal) (body-nested from cut c s.stack s.goals l h.nested) h
+first-nested : (used : Use) (from cut : ℕ) (c : Clause) (st : List Choice) (gs : List Next) → low gs ≤ cut → Nested st gs → Nested st (first_goals used from cut c ++ gs)
+first-nested Enter from cut c st gs l h = body-nested from cut c st gs l h
+first-nested (Match purpose body) from cut c st gs l h = h
 
-trying-kept : (goal : Tree) (cs : List Clause) (s : State) → Holds s → Kept (trying goal cs s)
-trying-kept goal [] s h = record { nested = h.nested; stacked = h.stacked }
-trying-kept goal (c ∷ []) s h =
-    entering-kept goal c s.fresh (height s) (numbering c (record s { tried = s.tried + 1 })) (low_height s.stack s.goals h.nested) (record { nested = h.nested; stacked = h.stacked })
-trying-kept goal (c ∷ d ∷ ds) s h =
-    entering-kept goal c s.fresh (height s) (numbering c (leaving goal (d ∷ ds) (record s { tried = s.tried + 1 }))) (low_height s.stack s.goals h.nested)
-    (let k : Holds (pushed (Clauses goal (d ∷ ds)) s) = pushed-holds (Clauses goal (d ∷ ds)) s tt h in record { nested = k.nested; stacked = k.stacked })
+near-holds : (s t : State) → IsNear s t → Holds s → Holds t
+near-holds s t n h = record { nested = rw (n.stack, n.goals) h.nested; stacked = rw n.stack h.stacked }
 
-called-kept : (goal : Tree) (i : Indicator) (before : ℕ) (seen : Journal) (s : State) (o : Option ℕ) → Holds s → Kept (called goal i before seen s o)
-called-kept goal i before seen s None h = record { nested = h.nested; stacked = h.stacked }
-called-kept goal i before seen s (Some p) h = trying-kept goal (candidate_clauses seen p (keys goal)) (looked before s p goal) (record { nested = h.nested; stacked = h.stacked })
+entering-kept : (x : Setting) (used : Use) (goal : Tree) (c : Candidate) (from cut : ℕ) (s : State) → low s.goals ≤ cut → Holds s → Kept (entering x used goal c from cut s)
+entering-kept x used goal c from cut s l h =
+    meeting-lasts x Holds Kept (λ t k. k) tt near-holds used c.name (first_goals used from cut c.clause) s (unifier (renamed from (side_of_clause used c.clause)) (side_of_call used goal)) h
+    (λ m. record { nested = nested_under m s.stack (first_goals used from cut c.clause ++ s.goals) (first-nested used from cut c.clause s.stack s.goals l h.nested); stacked = h.stacked })
+
+trying-kept : (x : Setting) (used : Use) (goal : Tree) (cs : List Candidate) (s : State) → Holds s → Kept (trying x used goal cs s)
+trying-kept x used goal [] s h = record { nested = h.nested; stacked = h.stacked }
+trying-kept x used goal (c ∷ []) s h =
+    entering-kept x used goal c s.fresh (height s) (numbering c.clause (record s { tried = s.tried + 1 })) (low_height s.stack s.goals h.nested) (record { nested = h.nested; stacked = h.stacked })
+trying-kept x used goal (c ∷ d ∷ ds) s h =
+    entering-kept x used goal c s.fresh (height s) (numbering c.clause (leaving used goal (d ∷ ds) (record s { tried = s.tried + 1 }))) (low_height s.stack s.goals h.nested)
+    (let k : Holds (pushed (Clauses used goal (d ∷ ds)) s) = pushed-holds (Clauses used goal (d ∷ ds)) s tt h in record { nested = k.nested; stacked = k.stacked })
+
+tries-kept : (x : Setting) (used : Use) (goal : Tree) (f p : ℕ) (t : State) → Holds t → Kept (trying x used goal (candidate_clauses (take f x.journal) p (keys goal)) t)
+tries-kept x used goal f p t h = trying-kept x used goal (candidate_clauses (take f x.journal) p (keys goal)) t h
 
 calling-kept : (x : Setting) (s : State) (goal : Tree) (i : Indicator) → Holds s → Kept (calling x s goal i)
-calling-kept x s goal i h = go s.fronts
-  where
-    at : (f : ℕ) (fs : List ℕ) (c : Bool) → Kept (if c then called goal i s.front (take f x.journal) (record s { front = f; fronts = fs }) (number_of (take f x.journal) i) else Unfit)
-    at f fs true = called-kept goal i s.front (take f x.journal) (record s { front = f; fronts = fs }) (number_of (take f x.journal) i) (record { nested = h.nested; stacked = h.stacked })
-    at f fs false = tt
+calling-kept x s goal i h = calling-lasts x Holds Kept (λ t k. k) tt near-holds (tries-kept x) s goal i h
 
-    go : (fs : List ℕ) → Kept (elim fs [ [] ↦ Unfit | f ∷ gs ↦ if nat_le s.front f && nat_le f (length x.journal) then called goal i s.front (take f x.journal) (record s { front = f; fronts = gs }) (number_of (take f x.journal) i) else Unfit ])
-    go [] = tt
-    go (f ∷ gs) = at f gs (nat_le s.front f && nat_le f (length x.journal))
+accessing-kept : (x : Setting) (a : Access) (s : State) → Holds s → Kept (accessing x a s)
+accessing-kept x a s h = accessing-lasts x Holds Kept (λ t k. k) tt near-holds (tries-kept x) a s h
 
 running-kept : (goal : Tree) (at : Indicator) (s : State) (o : Option Tree) → Holds s → Kept (running goal at s o)
 running-kept goal at s None h = record { nested = h.nested; stacked = h.stacked }
@@ -320,11 +322,6 @@ halting-kept x (integer z) s h = over-kept x s (Halted z)
 halting-kept x (atom a) s h = record { nested = h.nested; stacked = h.stacked }
 halting-kept x (compound f ts) s h = record { nested = h.nested; stacked = h.stacked }
 
-beside-kept : (s : State) (o : Outcome) → Holds s → GoesBeside s o → Kept o
-beside-kept s (Goes t) h b = record { nested = rw (b.stack, b.goals) h.nested; stacked = rw b.stack h.stacked }
-beside-kept s (Ends r) h b = absurd b
-beside-kept s Unfit h b = tt
-
 performing-kept : (x : Setting) (goal : Tree) (cut : ℕ) (c : Control) (s : State) → low s.goals ≤ cut → Holds s → Kept (performing x goal cut c s)
 performing-kept x goal cut True s l h = h
 performing-kept x goal cut Fail s l h = record { nested = h.nested; stacked = h.stacked }
@@ -347,7 +344,7 @@ performing-kept x goal cut (Findall t g r) s l h = gathering-kept t g r s (body_
 performing-kept x goal cut (Throw b) s l h = throwing-kept b s h
 performing-kept x goal cut Halt s l h = over-kept x s (Halted (pos 0))
 performing-kept x goal cut (HaltWith n) s l h = halting-kept x n s h
-performing-kept x goal cut (Database a) s l h = beside-kept s (accessing x a s) h (accessing-beside x a s)
+performing-kept x goal cut (Database a) s l h = accessing-kept x a s h
 performing-kept x goal cut (Builtin row args) s l h = builtin-kept x.ops row args s h
 performing-kept x goal cut (User i) s l h = calling-kept x s goal i h
 
@@ -409,7 +406,7 @@ going-kept x s (CatchEnd k ∷ rest) n h = go (height s == k)
     go false = left
 
 taken-kept : (x : Setting) (s : State) (a : Alternative) → Fits a s.goals → Holds s → Kept (taken x s a)
-taken-kept x s (Clauses goal rest) f h = stepping-kept x s (trying goal rest) (trying-kept goal rest (record s { steps = suc s.steps }) (record { nested = h.nested; stacked = h.stacked }))
+taken-kept x s (Clauses used goal rest) f h = stepping-kept x s (trying x used goal rest) (trying-kept x used goal rest (record s { steps = suc s.steps }) (record { nested = h.nested; stacked = h.stacked }))
 taken-kept x s (Right goal cut) f h = stepping-kept x s (onwards (Do goal cut ∷ [])) (record { nested = (f, h.nested); stacked = h.stacked })
 taken-kept x s Again f h = stepping-kept x s repeating (let k : Holds (pushed Again s) = pushed-holds Again s tt h in record { nested = k.nested; stacked = k.stacked })
 taken-kept x s NotMark f h = h
@@ -452,7 +449,7 @@ reaching-kept : (ball : Tree) (s : State) (below : List Choice) (c : Choice) (a 
 reaching-kept ball s below c (CatchMark catcher recovery) e n h =
     at-least (catching_ball ball catcher recovery (back_to s c below))
     (recovering-kept ball recovery (record (back_to s c below) { fresh = s.fresh + beyond ball }) (unifier (renamed s.fresh ball) catcher) (record { nested = n; stacked = h }))
-reaching-kept ball s below c (Clauses goal rest) e n h = on-raised ball s below e h
+reaching-kept ball s below c (Clauses used goal rest) e n h = on-raised ball s below e h
 reaching-kept ball s below c (Right goal cut) e n h = on-raised ball s below e h
 reaching-kept ball s below c Again e n h = on-raised ball s below e h
 reaching-kept ball s below c NotMark e n h = on-raised ball s below e h

@@ -9,7 +9,7 @@ use Rattle.wam_machine.specs.Machine.{Alternative, Clauses, Right, Again, NotMar
 -- ---- one choice
 
 pub found-mark : (copy : Tree) (a : Alternative) → is_mark (with_found copy a) ≡ is_mark a
-found-mark copy (Clauses goal rest) = refl
+found-mark copy (Clauses used goal rest) = refl
 found-mark copy (Right goal cut) = refl
 found-mark copy Again = refl
 found-mark copy NotMark = refl
@@ -17,7 +17,7 @@ found-mark copy (CatchMark c r) = refl
 found-mark copy (FindallMark l f) = refl
 
 found-taken : (copy : Tree) (a : Alternative) → CanBeTaken a → CanBeTaken (with_found copy a)
-found-taken copy (Clauses goal rest) h = h
+found-taken copy (Clauses used goal rest) h = h
 found-taken copy (Right goal cut) h = h
 found-taken copy Again h = h
 found-taken copy NotMark h = h

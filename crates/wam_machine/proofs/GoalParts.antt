@@ -15,11 +15,11 @@ use Rattle.term_store.specs.declared.cell.View.TheVariants as view
 use Rattle.term_store.specs.Terms.{text, trees_of, HasTerm}
 use Rattle.term_store.specs.Views.{tree_of}
 use Rattle.wam_machine.specs.Terms.{IsBuilt, IsGoal, built}
-use Rattle.wam_machine.specs.Goals.{IsFound, IsFoundNow, IsControl, IsPlain, AreAmong, AreGoals, control_in}
+use Rattle.wam_machine.specs.Goals.{IsFound, IsFoundNow, IsControl, IsPlain, IsAsked, AreAmong, AreGoals, control_in}
 use Rattle.wam_machine.specs.Control as spec
 use Rattle.term_builtins.specs.Table.{Row, builtins, place_in, place_when, is_row}
-use Rattle.wam_machine.specs.Control.{control_of, control_of_either, plain, builtin_or_user}
-use Rattle.wam_machine.specs.declared.control.Access.TheVariants.{Assert}
+use Rattle.wam_machine.specs.Control.{control_of, control_of_either, access_with_one, plain, builtin_or_user}
+use Rattle.wam_machine.specs.declared.control.Access.TheVariants.{Assert, Inspect, Retract, RetractAll, Abolish}
 use Rattle.wam_machine.specs.declared.control.Control.{Control}
 use Rattle.wam_machine.specs.declared.control.Control.TheVariants.{True, Fail, Cut, Repeat, Both, Either, IfElse, If, Not, Call, Once, Catch, Findall, Throw, Halt, HaltWith, Database, Builtin, User}
 use Rattle.wam_machine.specs.declared.terms.Terms.{Terms}
@@ -56,52 +56,71 @@ atom-plain a p q r s h c f = record {
 
 -- ---- one argument
 
-third : (c1 c2 c3 : spec.Control) (p q : Bool) → p ≡ false → q ≡ false → (if p then c1 else if q then c2 else c3) ≡ c3
-third c1 c2 c3 p q a b = rw (a, b) refl
-
-pub one-plain : (f : List ℕ) (only : Cell) → is_named (codes "call") f ≡ false → is_named (codes "once") f ≡ false → is_named (codes "\\+") f ≡ false → is_named (codes "throw") f ≡ false
-    → is_named (codes "halt") f ≡ false → is_named (codes "asserta") f ≡ false → is_named (codes "assertz") f ≡ false
-    → (c : Control) → IsPlain f (only ∷ []) c → IsFound (only ∷ []) (λ tree. compound f (more (tree only) none)) c
-one-plain f only p q r s h v w c g = record {
+pub one-asked : (f : List ℕ) (only : Cell) → is_named (codes "call") f ≡ false → is_named (codes "once") f ≡ false → is_named (codes "\\+") f ≡ false → is_named (codes "throw") f ≡ false
+    → is_named (codes "halt") f ≡ false → (c : Control) → IsAsked f only c → IsFound (only ∷ []) (λ tree. compound f (more (tree only) none)) c
+one-asked f only p q r s h c g = record {
   is = λ tree.
       ap (λ (d : spec.Control). Some d)
-      (sixth (spec.Call (tree only) none) (spec.Once (tree only)) (spec.Not (tree only)) (spec.Throw (tree only)) (spec.HaltWith (tree only))
-      (if is_named (codes "asserta") f then spec.Database (spec.Assert Front (tree only))
-      else if is_named (codes "assertz") f then spec.Database (spec.Assert Back (tree only)) else plain f (more (tree only) none))
+      (sixth (spec.Call (tree only) none) (spec.Once (tree only)) (spec.Not (tree only)) (spec.Throw (tree only)) (spec.HaltWith (tree only)) (access_with_one f (tree only))
       (is_named (codes "call") f) (is_named (codes "once") f) (is_named (codes "\\+") f) (is_named (codes "throw") f) (is_named (codes "halt") f) p q r s h
-      ∙ third (spec.Database (spec.Assert Front (tree only))) (spec.Database (spec.Assert Back (tree only))) (plain f (more (tree only) none))
-      (is_named (codes "asserta") f) (is_named (codes "assertz") f) v w
       ∙ g.is tree);
   among = λ n sh k. g.among n sh k;
 }
 
--- what adds a clause
-pub front-added : (f : List ℕ) (only : Cell) → f ≡ codes "asserta" → IsFound (only ∷ []) (λ tree. compound f (more (tree only) none)) (Database (Assert Front only))
-front-added f only e =
-    subst (λ (n : List ℕ). IsFound (only ∷ []) (λ tree. compound n (more (tree only) none)) (Database (Assert Front only))) (sym e)
-    (record { is = λ tree. refl; among = λ n s k. All-head (HasTerm n s) only [] k })
+pub throw-found : (f : List ℕ) (only : Cell) → f ≡ codes "throw" → IsFound (only ∷ []) (λ tree. compound f (more (tree only) none)) (Throw only)
+throw-found f only e =
+    subst (λ (n : List ℕ). IsFound (only ∷ []) (λ tree. compound n (more (tree only) none)) (Throw only)) (sym e) (record { is = λ tree. refl; among = λ n s k. All-head (HasTerm n s) only [] k })
 
-pub back-added : (f : List ℕ) (only : Cell) → f ≡ codes "assertz" → IsFound (only ∷ []) (λ tree. compound f (more (tree only) none)) (Database (Assert Back only))
-back-added f only e =
-    subst (λ (n : List ℕ). IsFound (only ∷ []) (λ tree. compound n (more (tree only) none)) (Database (Assert Back only))) (sym e)
-    (record { is = λ tree. refl; among = λ n s k. All-head (HasTerm n s) only [] k })
+-- what is asked of the database by one argument
+pub access-plain : (f : List ℕ) (only : Cell) → is_named (codes "asserta") f ≡ false → is_named (codes "assertz") f ≡ false → is_named (codes "retract") f ≡ false
+    → is_named (codes "retractall") f ≡ false → is_named (codes "abolish") f ≡ false → (c : Control) → IsPlain f (only ∷ []) c → IsAsked f only c
+access-plain f only p q r s h c g = record {
+  is = λ tree.
+      sixth (spec.Database (spec.Assert Front (tree only))) (spec.Database (spec.Assert Back (tree only))) (spec.Database (spec.Retract (tree only))) (spec.Database (spec.RetractAll (tree only)))
+      (spec.Database (spec.Abolish (tree only))) (plain f (more (tree only) none))
+      (is_named (codes "asserta") f) (is_named (codes "assertz") f) (is_named (codes "retract") f) (is_named (codes "retractall") f) (is_named (codes "abolish") f) p q r s h
+      ∙ g.is tree;
+  among = λ n sh k. g.among n sh k;
+}
+
+pub front-asked : (f : List ℕ) (only : Cell) → f ≡ codes "asserta" → IsAsked f only (Database (Assert Front only))
+front-asked f only e =
+    subst (λ (n : List ℕ). IsAsked n only (Database (Assert Front only))) (sym e) (record { is = λ tree. refl; among = λ n s k. All-head (HasTerm n s) only [] k })
+
+pub back-asked : (f : List ℕ) (only : Cell) → f ≡ codes "assertz" → IsAsked f only (Database (Assert Back only))
+back-asked f only e =
+    subst (λ (n : List ℕ). IsAsked n only (Database (Assert Back only))) (sym e) (record { is = λ tree. refl; among = λ n s k. All-head (HasTerm n s) only [] k })
+
+pub retract-asked : (f : List ℕ) (only : Cell) → f ≡ codes "retract" → IsAsked f only (Database (Retract only))
+retract-asked f only e =
+    subst (λ (n : List ℕ). IsAsked n only (Database (Retract only))) (sym e) (record { is = λ tree. refl; among = λ n s k. All-head (HasTerm n s) only [] k })
+
+pub retract_all-asked : (f : List ℕ) (only : Cell) → f ≡ codes "retractall" → IsAsked f only (Database (RetractAll only))
+retract_all-asked f only e =
+    subst (λ (n : List ℕ). IsAsked n only (Database (RetractAll only))) (sym e) (record { is = λ tree. refl; among = λ n s k. All-head (HasTerm n s) only [] k })
+
+pub abolish-asked : (f : List ℕ) (only : Cell) → f ≡ codes "abolish" → IsAsked f only (Database (Abolish only))
+abolish-asked f only e =
+    subst (λ (n : List ℕ). IsAsked n only (Database (Abolish only))) (sym e) (record { is = λ tree. refl; among = λ n s k. All-head (HasTerm n s) only [] k })
 
 -- ---- two and three arguments
 
-fifth : (c1 c2 c3 c4 c5 : spec.Control) (p q r s : Bool) → p ≡ false → q ≡ false → r ≡ false → s ≡ false
-    → (if p then c1 else if q then c2 else if r then c3 else if s then c4 else c5) ≡ c5
-fifth c1 c2 c3 c4 c5 p q r s a b c d = rw (a, b, c, d) refl
-
 pub two-plain : (f : List ℕ) (left right : Cell) → is_named (codes ",") f ≡ false → is_named (codes ";") f ≡ false → is_named (codes "->") f ≡ false → is_named (codes "call") f ≡ false
-    → (c : Control) → IsPlain f (left ∷ right ∷ []) c → IsFound (left ∷ right ∷ []) (λ tree. compound f (more (tree left) (more (tree right) none))) c
-two-plain f left right p q r s c g = record {
+    → is_named (codes "clause") f ≡ false → (c : Control) → IsPlain f (left ∷ right ∷ []) c → IsFound (left ∷ right ∷ []) (λ tree. compound f (more (tree left) (more (tree right) none))) c
+two-plain f left right p q r s h c g = record {
   is = λ tree.
       ap (λ (d : spec.Control). Some d)
-      (fifth (spec.Both (tree left) (tree right)) (control_of_either (tree left) (tree right)) (spec.If (tree left) (tree right)) (spec.Call (tree left) (more (tree right) none))
-      (plain f (more (tree left) (more (tree right) none)))
-      (is_named (codes ",") f) (is_named (codes ";") f) (is_named (codes "->") f) (is_named (codes "call") f) p q r s ∙ g.is tree);
+      (sixth (spec.Both (tree left) (tree right)) (control_of_either (tree left) (tree right)) (spec.If (tree left) (tree right)) (spec.Call (tree left) (more (tree right) none))
+      (spec.Database (spec.Inspect (tree left) (tree right))) (plain f (more (tree left) (more (tree right) none)))
+      (is_named (codes ",") f) (is_named (codes ";") f) (is_named (codes "->") f) (is_named (codes "call") f) (is_named (codes "clause") f) p q r s h ∙ g.is tree);
   among = λ n sh k. g.among n sh k;
 }
+
+-- what asks for the clauses of a head and a body
+pub clause-found : (f : List ℕ) (left right : Cell) → f ≡ codes "clause" → IsFound (left ∷ right ∷ []) (λ tree. compound f (more (tree left) (more (tree right) none))) (Database (Inspect left right))
+clause-found f left right e =
+    subst (λ (n : List ℕ). IsFound (left ∷ right ∷ []) (λ tree. compound n (more (tree left) (more (tree right) none))) (Database (Inspect left right))) (sym e)
+    (record { is = λ tree. refl; among = λ n s k. (All-head (HasTerm n s) left (right ∷ []) k, All-head (HasTerm n s) right [] (All-tail (HasTerm n s) left (right ∷ []) k)) })
 
 fourth : (c1 c2 c3 c4 : spec.Control) (p q r : Bool) → p ≡ false → q ≡ false → r ≡ false → (if p then c1 else if q then c2 else if r then c3 else c4) ≡ c4
 fourth c1 c2 c3 c4 p q r a b d = rw (a, b, d) refl

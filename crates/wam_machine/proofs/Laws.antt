@@ -1,23 +1,21 @@
 -- A goal has one transcript at most, and its steps are within the budget.
 use Rattle.std.proofs.Common.{◌≡◌, ℕ, suc, ◌+◌, ◌≤◌, List, [], ◌∷◌, Bool, true, false, refl, sym, ◌∙◌, subst, arith, inl, inr}
-use Rattle.std.specs.Prelude.{pos, ◌-◌, ◌==◌, ◌≢◌, ◌⊎◌, ◌&&◌, nat_le, nat_lt, codes, if◌then◌else◌, Option, Some, None, take, length}
+use Rattle.std.specs.Prelude.{pos, ◌-◌, ◌==◌, ◌≢◌, ◌⊎◌, ◌&&◌, nat_lt, codes, if◌then◌else◌, Option, Some, None, take}
 use Rattle.std.proofs.lemmas.Bool.Decides.{eqb_tells}
 use Rattle.prolog_terms.specs.Operators.{Table}
 use Rattle.prolog_terms.specs.Tree.{Tree, Trees, variable, integer, atom, compound, count}
 use Rattle.prolog_terms.specs.declared.fault.Fault.TheVariants.{Representation}
-use Rattle.prolog_terms.specs.declared.entry.Clause.{Clause}
 use Rattle.prolog_terms.specs.declared.entry.Indicator.{Indicator}
-use Rattle.journals.specs.Journal.{Journal, number_of}
 use Rattle.call_patterns.specs.Keys.{keys}
 use Rattle.prolog_terms.specs.Substitutions.{renamed, beyond}
 use Rattle.term_unifier.specs.Unifier.{unifier}
 use Rattle.prolog_terms.specs.Clauses.{body_of}
 use Rattle.term_builtins.specs.Meanings.{Meaning, Holds, Equates, Writes, Puts, Raises, list_tree}
-use Rattle.wam_machine.specs.Control.{Control, True, Fail, Cut, Repeat, Both, Either, IfElse, If, Not, Call, Once, Catch, Findall, Throw, Halt, HaltWith, Database, Builtin, User, control_of, with_added}
+use Rattle.wam_machine.specs.Control.{Access, Control, True, Fail, Cut, Repeat, Both, Either, IfElse, If, Not, Call, Once, Catch, Findall, Throw, Halt, HaltWith, Database, Builtin, User, control_of, with_added}
 use Rattle.wam_machine.specs.declared.run.RunEnd.{RunEnd}
 use Rattle.wam_machine.specs.declared.run.RunEnd.TheVariants.{Exhausted, Ball, Spent, Halted}
-use Rattle.wam_machine.specs.Machine.{Next, Do, ConditionEnd, NotEnd, CatchEnd, FindallEnd, Alternative, Clauses, Right, Again, NotMark, CatchMark, FindallMark, Choice, Mode, Going, Failing, Raising, State, Setting, Report, Outcome, Goes, Ends, Unfit, no_more, over, stepping, onwards, height, solving, equating, numbering, body_from, entering, leaving, trying, candidate_clauses, looked, called, calling, call_with, running, calling_added, denying, catching, gathering, gathered, new_copies, behind_copies, throwing, halting, cut_back, leaving_catch, active_catch, recovering, reaching, reached, caught, repeating, performing, doing, goal_move, going, back_to, taken, failing, raising, raises, move, Runs, ends, goes, coming_to, calling_builtin, accessing}
-use Rattle.wam_machine.proofs.Accessed.{GoesBeside, accessing-beside}
+use Rattle.wam_machine.specs.Machine.{Use, Candidate, Next, Do, ConditionEnd, NotEnd, CatchEnd, FindallEnd, Alternative, Clauses, Right, Again, NotMark, CatchMark, FindallMark, Choice, Mode, Going, Failing, Raising, State, Setting, Report, Outcome, Goes, Ends, Unfit, no_more, over, stepping, onwards, height, solving, equating, numbering, side_of_clause, side_of_call, first_goals, entering, leaving, trying, candidate_clauses, calling, call_with, running, calling_added, denying, catching, gathering, gathered, new_copies, behind_copies, throwing, halting, cut_back, leaving_catch, active_catch, recovering, reaching, reached, caught, repeating, performing, doing, goal_move, going, back_to, taken, failing, raising, raises, move, Runs, ends, goes, coming_to, calling_builtin, accessing}
+use Rattle.wam_machine.proofs.Lasting.{IsNear, meeting-lasts, calling-lasts, accessing-lasts}
 
 -- ---- one transcript
 
@@ -79,17 +77,22 @@ builtin-keeps : (ops : Table) (row : ℕ) (args : Trees) (s : State) → Keeps s
 unfolding calling_builtin
 builtin-keeps ops row args s = coming_to-keeps ops _ s _
 
-entering-keeps : (goal : Tree) (c : Clause) (from cut : ℕ) (s : State) → Keeps s.steps (entering goal c from cut s)
-entering-keeps goal c from cut s = equating-keeps (renamed from c.head) goal (body_from from cut c) s
+near-steps : (n : ℕ) (s t : State) → IsNear s t → s.steps ≡ n → t.steps ≡ n
+near-steps n s t k h = k.steps ∙ h
 
-pub trying-keeps : (goal : Tree) (cs : List Clause) (s : State) → Keeps s.steps (trying goal cs s)
-trying-keeps goal [] s = refl
-trying-keeps goal (c ∷ []) s = entering-keeps goal c s.fresh (height s) (numbering c (record s { tried = s.tried + 1 }))
-trying-keeps goal (c ∷ d ∷ ds) s = entering-keeps goal c s.fresh (height s) (numbering c (leaving goal (d ∷ ds) (record s { tried = s.tried + 1 })))
+entering-keeps : (x : Setting) (used : Use) (goal : Tree) (c : Candidate) (from cut : ℕ) (s : State) → Keeps s.steps (entering x used goal c from cut s)
+entering-keeps x used goal c from cut s =
+    meeting-lasts x (λ t. t.steps ≡ s.steps) (Keeps s.steps) (λ t h. h) tt (near-steps s.steps) used c.name (first_goals used from cut c.clause) s
+    (unifier (renamed from (side_of_clause used c.clause)) (side_of_call used goal)) refl (λ m. refl)
 
-called-keeps : (goal : Tree) (i : Indicator) (before : ℕ) (seen : Journal) (s : State) (o : Option ℕ) → Keeps s.steps (called goal i before seen s o)
-called-keeps goal i before seen s None = refl
-called-keeps goal i before seen s (Some p) = trying-keeps goal (candidate_clauses seen p (keys goal)) (looked before s p goal)
+pub trying-keeps : (x : Setting) (used : Use) (goal : Tree) (cs : List Candidate) (s : State) → Keeps s.steps (trying x used goal cs s)
+trying-keeps x used goal [] s = refl
+trying-keeps x used goal (c ∷ []) s = entering-keeps x used goal c s.fresh (height s) (numbering c.clause (record s { tried = s.tried + 1 }))
+trying-keeps x used goal (c ∷ d ∷ ds) s = entering-keeps x used goal c s.fresh (height s) (numbering c.clause (leaving used goal (d ∷ ds) (record s { tried = s.tried + 1 })))
+
+tries-keeps : (x : Setting) (n : ℕ) (used : Use) (goal : Tree) (f p : ℕ) (t : State) → t.steps ≡ n → Keeps n (trying x used goal (candidate_clauses (take f x.journal) p (keys goal)) t)
+tries-keeps x n used goal f p t h =
+    subst (λ (m : ℕ). Keeps m (trying x used goal (candidate_clauses (take f x.journal) p (keys goal)) t)) h (trying-keeps x used goal (candidate_clauses (take f x.journal) p (keys goal)) t)
 
 running-keeps : (goal : Tree) (at : Indicator) (s : State) (o : Option Tree) → Keeps s.steps (running goal at s o)
 running-keeps goal at s None = refl
@@ -133,15 +136,10 @@ calling_added-keeps (compound f ts) added s = go (nat_lt 255 (count ts + count a
     go false = running-keeps (with_added (compound f ts) added) (call_with added) s (body_of (with_added (compound f ts) added))
 
 calling-keeps : (x : Setting) (s : State) (goal : Tree) (i : Indicator) → Keeps s.steps (calling x s goal i)
-calling-keeps x s goal i = go s.fronts
-  where
-    at : (f : ℕ) (fs : List ℕ) (b : Bool) → Keeps s.steps (if b then called goal i s.front (take f x.journal) (record s { front = f; fronts = fs }) (number_of (take f x.journal) i) else Unfit)
-    at f fs true = called-keeps goal i s.front (take f x.journal) (record s { front = f; fronts = fs }) (number_of (take f x.journal) i)
-    at f fs false = tt
+calling-keeps x s goal i = calling-lasts x (λ t. t.steps ≡ s.steps) (Keeps s.steps) (λ t h. h) tt (near-steps s.steps) (tries-keeps x s.steps) s goal i refl
 
-    go : (fs : List ℕ) → Keeps s.steps (elim fs [ [] ↦ Unfit | f ∷ gs ↦ if nat_le s.front f && nat_le f (length x.journal) then called goal i s.front (take f x.journal) (record s { front = f; fronts = gs }) (number_of (take f x.journal) i) else Unfit ])
-    go [] = tt
-    go (f ∷ gs) = at f gs (nat_le s.front f && nat_le f (length x.journal))
+accessing-keeps : (x : Setting) (a : Access) (s : State) → Keeps s.steps (accessing x a s)
+accessing-keeps x a s = accessing-lasts x (λ t. t.steps ≡ s.steps) (Keeps s.steps) (λ t h. h) tt (near-steps s.steps) (tries-keeps x s.steps) a s refl
 
 stepping-within : (x : Setting) (s : State) (then_ : State → Outcome) → s.steps ≤ x.budget → ((t : State) → Keeps t.steps (then_ t)) → Within x.budget (stepping x s then_)
 stepping-within x s then_ le k = go (eqb_tells s.steps x.budget)
@@ -151,11 +149,6 @@ stepping-within x s then_ le k = go (eqb_tells s.steps x.budget)
     go (inr (e, other)) =
         let more : suc s.steps ≤ x.budget = omega (arith, other) in
         rw (e, stepping) (kept_within x.budget (suc s.steps) (then_ (record s { steps = suc s.steps })) more (k (record s { steps = suc s.steps })))
-
-beside-keeps : (s : State) (o : Outcome) → GoesBeside s o → Keeps s.steps o
-beside-keeps s (Goes t) h = h.steps
-beside-keeps s (Ends r) h = absurd h
-beside-keeps s Unfit h = tt
 
 pub performing-keeps : (x : Setting) (goal : Tree) (cut : ℕ) (c : Control) (s : State) → Keeps s.steps (performing x goal cut c s)
 performing-keeps x goal cut True s = refl
@@ -174,7 +167,7 @@ performing-keeps x goal cut (Findall t g l) s = gathering-keeps t g l s (body_of
 performing-keeps x goal cut (Throw b) s = throwing-keeps b s
 performing-keeps x goal cut Halt s = over-keeps x s (Halted (pos 0))
 performing-keeps x goal cut (HaltWith n) s = halting-keeps x n s
-performing-keeps x goal cut (Database a) s = beside-keeps s (accessing x a s) (accessing-beside x a s)
+performing-keeps x goal cut (Database a) s = accessing-keeps x a s
 performing-keeps x goal cut (Builtin row args) s = builtin-keeps x.ops row args s
 performing-keeps x goal cut (User i) s = calling-keeps x s goal i
 
@@ -222,7 +215,7 @@ going-within x s (CatchEnd h ∷ rest) le = rw (leaving_catch-keeps h (record s 
 going-within x s (FindallEnd t h ∷ rest) le = le
 
 taken-within : (x : Setting) (s : State) (a : Alternative) → s.steps ≤ x.budget → Within x.budget (taken x s a)
-taken-within x s (Clauses goal rest) le = stepping-within x s (trying goal rest) le (trying-keeps goal rest)
+taken-within x s (Clauses used goal rest) le = stepping-within x s (trying x used goal rest) le (trying-keeps x used goal rest)
 taken-within x s (Right goal cut) le = stepping-within x s (onwards (Do goal cut ∷ [])) le (λ t. refl)
 taken-within x s Again le = stepping-within x s repeating le (λ t. refl)
 taken-within x s NotMark le = le
@@ -240,7 +233,7 @@ recovering-keeps ball recovery s (Some m) = refl
 reaching-keeps : (ball : Tree) (s : State) (below : List Choice) (c : Choice) (a : Alternative) → Keeps s.steps (reaching ball s below c a)
 reaching-keeps ball s below c (CatchMark catcher recovery) =
     recovering-keeps ball recovery (record (back_to s c below) { fresh = s.fresh + beyond ball }) (unifier (renamed s.fresh ball) catcher)
-reaching-keeps ball s below c (Clauses goal rest) = refl
+reaching-keeps ball s below c (Clauses used goal rest) = refl
 reaching-keeps ball s below c (Right goal cut) = refl
 reaching-keeps ball s below c Again = refl
 reaching-keeps ball s below c NotMark = refl

@@ -1,20 +1,16 @@
 -- The machine's moves at the engine's states.
 use Rattle.std.proofs.Common.{◌≡◌, ℕ, suc, ◌+◌, ◌≤◌, List, [], ◌∷◌, ◌++◌, Bool, true, false, length, take, refl, ◌∙◌, ap, arith, inl, inr, Some, None}
-use Rattle.std.specs.Prelude.{◌==◌, ◌≢◌, ◌⊎◌, ◌||◌, nat_le}
+use Rattle.std.specs.Prelude.{◌==◌, ◌≢◌, ◌⊎◌, ◌||◌}
 use Rattle.std.specs.List.{list_any}
-use Rattle.std.proofs.lemmas.Bool.Decides.{eqb_tells, nat_tests}
+use Rattle.std.proofs.lemmas.Bool.Decides.{eqb_tells}
 use Rattle.prolog_terms.specs.Tree.{Tree}
-use Rattle.prolog_terms.specs.Faults.{fault_tree}
-use Rattle.prolog_terms.specs.declared.entry.Indicator.{Indicator}
-use Rattle.prolog_terms.specs.declared.fault.Fault.TheVariants.{Existence}
 use Rattle.journal_base.specs.Goals.{Goal}
-use Rattle.journals.specs.Journal.{Journal, number_of}
-use Rattle.call_patterns.specs.Keys.{keys}
+use Rattle.journals.specs.Journal.{Journal}
 use Rattle.wam_machine.specs.Control.{Control, True, Fail, Cut, Repeat, Both, Either, IfElse, If, Not, Call, Once, Catch, Findall, Throw, Halt, HaltWith, Database, Builtin, User, control_of}
 use Rattle.wam_machine.specs.Machine as spec
-use Rattle.wam_machine.specs.Machine.{Next, Do, Alternative, Clauses, Right, Again, NotMark, CatchMark, FindallMark, State, Setting, Outcome, Goes, Ends, Deed, Report, Going, Failing, Raising, move, trying, calling, called, candidate_clauses, call_of, goal_move, doing, performing, stepping, taken, back_to, is_alternative, Looked, over, newest}
+use Rattle.wam_machine.specs.Machine.{Next, Do, Alternative, Clauses, Right, Again, NotMark, CatchMark, FindallMark, State, Setting, Outcome, Goes, Ends, Deed, Report, Failing, move, goal_move, doing, performing, stepping, taken, back_to, is_alternative, over, newest}
 use Rattle.wam_machine.specs.Terms.{Turn, OfCall, OfRight, OfRepeat, OfNot, OfCatch, OfFindall, Saved, is_open, is_any_open}
-use Rattle.wam_machine.specs.View.{alternative_of, choice_of, state_from, stack_of, resuming}
+use Rattle.wam_machine.specs.View.{alternative_of, choice_of, stack_of, resuming}
 use Rattle.wam_machine.specs.declared.run.Event.{Event}
 use Rattle.wam_machine.specs.declared.run.RunEnd.{RunEnd}
 use Rattle.wam_machine.specs.declared.run.RunEnd.TheVariants.{Exhausted, Spent}
@@ -68,9 +64,6 @@ agree m n h = go (eqb_tells m n)
     go (inl (d, e)) = d
     go (inr (d, e)) = absurd (e h)
 
-at_most : (m n : ℕ) → m ≤ n → nat_le m n ≡ true
-at_most m n h = grind (arith, nat_tests)
-
 -- ---- steps
 
 -- a goal that takes a step: no conjunction
@@ -116,8 +109,8 @@ doing-steps x goal cut s (Database a) h = refl
 doing-steps x goal cut s (Builtin row args) h = refl
 doing-steps x goal cut s (User i) h = refl
 
-pub taken-steps : (x : Setting) (s : State) (a : Alternative) → is_alternative a ≡ true → taken x s a ≡ stepping x s (resuming a)
-taken-steps x s (Clauses goal cs) h = refl
+pub taken-steps : (x : Setting) (s : State) (a : Alternative) → is_alternative a ≡ true → taken x s a ≡ stepping x s (resuming x a)
+taken-steps x s (Clauses used goal cs) h = refl
 taken-steps x s (Right goal cut) h = refl
 taken-steps x s Again h = refl
 taken-steps x s NotMark h = absurd (cc h)
@@ -151,24 +144,6 @@ module _ (x : Setting) (goal : Tree) (cut : ℕ) (s : State) (c : Control) (is :
 
 pub goal_both : (x : Setting) (goal a b : Tree) (cut : ℕ) (s : State) → control_of goal ≡ Some (Both a b) → goal_move x goal cut s (control_of goal) ≡ Goes (record s { goals = Do a cut ∷ Do b cut ∷ s.goals })
 goal_both x goal a b cut s is = ap (goal_move x goal cut s) is
-
--- ---- a call
-
-module _ (x : Setting) (goals : List Next) (stack : List spec.Choice) (bindings : ℕ → Tree) (fresh : ℕ) (steps : ℕ) (events : List Event) (front : ℕ) (deeds : List Deed) (tried : ℕ) where
-  called_at : (m : spec.Mode) (goal : Tree) (i : Indicator) (f : ℕ) (fs : List ℕ) → front ≤ f → f ≤ length x.journal →
-      calling x (state_from goals stack bindings fresh m steps events front deeds tried (f ∷ fs)) goal i
-      ≡ called goal i front (take f x.journal) (state_from goals stack bindings fresh m steps events f deeds tried fs) (number_of (take f x.journal) i)
-  called_at m goal i f fs low high = rw (at_most front f low, at_most f (length x.journal) high) refl
-
-  pub call_missing : (m : spec.Mode) (goal ball : Tree) (i : Indicator) (f : ℕ) (fs : List ℕ) → front ≤ f → f ≤ length x.journal → number_of (take f x.journal) i ≡ None → ball ≡ fault_tree (Existence i) i →
-      calling x (state_from goals stack bindings fresh m steps events front deeds tried (f ∷ fs)) goal i ≡ Goes (state_from goals stack bindings fresh (Raising ball) steps events f deeds tried fs)
-  call_missing m goal ball i f fs low high absent is = called_at m goal i f fs low high ∙ rw (absent, is) refl
-
-  pub call_found : (m : spec.Mode) (goal : Tree) (i : Indicator) (p f : ℕ) (fs : List ℕ) → front ≤ f → f ≤ length x.journal → number_of (take f x.journal) i ≡ Some p →
-      calling x (state_from goals stack bindings fresh m steps events front deeds tried (f ∷ fs)) goal i
-      ≡ trying goal (candidate_clauses (take f x.journal) p (keys goal))
-      (state_from goals stack bindings fresh m steps events f (deeds ++ Looked (record { before = front; front = f; call = call_of p goal }) ∷ []) tried fs)
-  call_found m goal i p f fs low high some = called_at m goal i f fs low high ∙ rw some refl
 
 -- ---- after a failure
 

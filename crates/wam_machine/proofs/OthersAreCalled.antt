@@ -10,7 +10,7 @@ use Rattle.prolog_terms.specs.Indicators.{indicator_of}
 use Rattle.prolog_terms.specs.declared.entry.Indicator.{Indicator}
 use Rattle.term_builtins.specs.Table.{Row, builtins, indicator, place_in, place_when}
 use Rattle.prolog_terms.specs.declared.entry.End.TheVariants.{Front, Back}
-use Rattle.wam_machine.specs.Control.{Control, True, Fail, Cut, Repeat, Halt, Call, Once, Not, Throw, HaltWith, Both, If, Catch, Findall, Database, Assert, User, plain, builtin_or_user, control_of, control_of_either, control_with_more}
+use Rattle.wam_machine.specs.Control.{Control, True, Fail, Cut, Repeat, Halt, Call, Once, Not, Throw, HaltWith, Both, If, Catch, Findall, Database, Assert, Inspect, Retract, RetractAll, Abolish, User, plain, builtin_or_user, access_with_one, control_of, control_of_either}
 use Rattle.wam_machine.specs.Reserved.{is_reserved, control, of_terms, of_texts, of_numbers, of_clauses}
 
 abbrev at : List ℕ → ℕ → Indicator
@@ -31,9 +31,15 @@ zero_names : (is_reserved (at (codes "true") 0) ≡ true) × (is_reserved (at (c
 unfolding is_reserved control
 zero_names = (refl, refl, refl, refl, refl)
 
-one_names : (is_reserved (at (codes "call") 1) ≡ true) × (is_reserved (at (codes "once") 1) ≡ true) × (is_reserved (at (codes "\\+") 1) ≡ true) × (is_reserved (at (codes "throw") 1) ≡ true) × (is_reserved (at (codes "halt") 1) ≡ true) × (is_reserved (at (codes "asserta") 1) ≡ true) × (is_reserved (at (codes "assertz") 1) ≡ true)
+one_names : (is_reserved (at (codes "call") 1) ≡ true) × (is_reserved (at (codes "once") 1) ≡ true) × (is_reserved (at (codes "\\+") 1) ≡ true) × (is_reserved (at (codes "throw") 1) ≡ true) × (is_reserved (at (codes "halt") 1) ≡ true)
+unfolding is_reserved control
+one_names = (refl, refl, refl, refl, refl)
+
+-- what the database is asked by
+access_names : (is_reserved (at (codes "asserta") 1) ≡ true) × (is_reserved (at (codes "assertz") 1) ≡ true) × (is_reserved (at (codes "retract") 1) ≡ true) × (is_reserved (at (codes "retractall") 1) ≡ true)
+    × (is_reserved (at (codes "abolish") 1) ≡ true) × (is_reserved (at (codes "clause") 2) ≡ true)
 unfolding is_reserved control of_terms of_texts of_numbers of_clauses
-one_names = (refl, refl, refl, refl, refl, refl, refl)
+access_names = (refl, refl, refl, refl, refl, refl)
 
 two_names : (is_reserved (at (codes ",") 2) ≡ true) × (is_reserved (at (codes ";") 2) ≡ true) × (is_reserved (at (codes "->") 2) ≡ true) × (is_reserved (at (codes "call") 2) ≡ true)
 unfolding is_reserved control
@@ -85,17 +91,9 @@ plain_called f args h = ap (λ (o : Option ℕ). builtin_or_user o f args) (not_
 
 -- ---- by the number of arguments
 
-eighth : (c1 c2 c3 c4 c5 c6 c7 c8 : Control) (p q r s t u v : Bool) → p ≡ false → q ≡ false → r ≡ false → s ≡ false → t ≡ false → u ≡ false → v ≡ false
-    → (if p then c1 else if q then c2 else if r then c3 else if s then c4 else if t then c5 else if u then c6 else if v then c7 else c8) ≡ c8
-eighth c1 c2 c3 c4 c5 c6 c7 c8 p q r s t u v a b c d e f g = rw (a, b, c, d, e, f, g) refl
-
 sixth : (c1 c2 c3 c4 c5 c6 : Control) (p q r s t : Bool) → p ≡ false → q ≡ false → r ≡ false → s ≡ false → t ≡ false
     → (if p then c1 else if q then c2 else if r then c3 else if s then c4 else if t then c5 else c6) ≡ c6
 sixth c1 c2 c3 c4 c5 c6 p q r s t a b c d e = rw (a, b, c, d, e) refl
-
-fifth : (c1 c2 c3 c4 c5 : Control) (p q r s : Bool) → p ≡ false → q ≡ false → r ≡ false → s ≡ false
-    → (if p then c1 else if q then c2 else if r then c3 else if s then c4 else c5) ≡ c5
-fifth c1 c2 c3 c4 c5 p q r s a b c d = rw (a, b, c, d) refl
 
 fourth : (c1 c2 c3 c4 : Control) (p q r : Bool) → p ≡ false → q ≡ false → r ≡ false → (if p then c1 else if q then c2 else if r then c3 else c4) ≡ c4
 fourth c1 c2 c3 c4 p q r a b c = rw (a, b, c) refl
@@ -108,21 +106,30 @@ atom_called a h =
     (no_name _ a 0 n.0 h) (no_name _ a 0 n.1 h) (no_name _ a 0 n.2 h) (no_name _ a 0 n.3 h) (no_name _ a 0 n.4 h)
     ∙ plain_called a none h)
 
+access_called : (f : List ℕ) (a : Tree) → is_reserved (at f 1) ≡ false → access_with_one f a ≡ User (at f 1)
+access_called f a h =
+    let n = access_names in
+    sixth (Database (Assert Front a)) (Database (Assert Back a)) (Database (Retract a)) (Database (RetractAll a)) (Database (Abolish a)) (plain f (more a none))
+    (is_named (codes "asserta") f) (is_named (codes "assertz") f) (is_named (codes "retract") f) (is_named (codes "retractall") f) (is_named (codes "abolish") f)
+    (no_name _ f 1 n.0 h) (no_name _ f 1 n.1 h) (no_name _ f 1 n.2 h) (no_name _ f 1 n.3 h) (no_name _ f 1 n.4 h)
+    ∙ plain_called f (more a none) h
+
 one_called : (f : List ℕ) (a : Tree) → is_reserved (at f 1) ≡ false → control_of (compound f (more a none)) ≡ Some (User (at f 1))
 one_called f a h =
     let n = one_names in
     ap (λ (c : Control). Some c)
-    (eighth (Call a none) (Once a) (Not a) (Throw a) (HaltWith a) (Database (Assert Front a)) (Database (Assert Back a)) (plain f (more a none))
-    (is_named (codes "call") f) (is_named (codes "once") f) (is_named (codes "\\+") f) (is_named (codes "throw") f) (is_named (codes "halt") f) (is_named (codes "asserta") f) (is_named (codes "assertz") f)
-    (no_name _ f 1 n.0 h) (no_name _ f 1 n.1 h) (no_name _ f 1 n.2 h) (no_name _ f 1 n.3 h) (no_name _ f 1 n.4 h) (no_name _ f 1 n.5 h) (no_name _ f 1 n.6 h)
-    ∙ plain_called f (more a none) h)
+    (sixth (Call a none) (Once a) (Not a) (Throw a) (HaltWith a) (access_with_one f a)
+    (is_named (codes "call") f) (is_named (codes "once") f) (is_named (codes "\\+") f) (is_named (codes "throw") f) (is_named (codes "halt") f)
+    (no_name _ f 1 n.0 h) (no_name _ f 1 n.1 h) (no_name _ f 1 n.2 h) (no_name _ f 1 n.3 h) (no_name _ f 1 n.4 h)
+    ∙ access_called f a h)
 
 two_called : (f : List ℕ) (a b : Tree) → is_reserved (at f 2) ≡ false → control_of (compound f (more a (more b none))) ≡ Some (User (at f 2))
 two_called f a b h =
     let n = two_names in
     ap (λ (c : Control). Some c)
-    (fifth (Both a b) (control_of_either a b) (If a b) (Call a (more b none)) (plain f (more a (more b none))) (is_named (codes ",") f) (is_named (codes ";") f) (is_named (codes "->") f) (is_named (codes "call") f)
-    (no_name _ f 2 n.0 h) (no_name _ f 2 n.1 h) (no_name _ f 2 n.2 h) (no_name _ f 2 n.3 h)
+    (sixth (Both a b) (control_of_either a b) (If a b) (Call a (more b none)) (Database (Inspect a b)) (plain f (more a (more b none)))
+    (is_named (codes ",") f) (is_named (codes ";") f) (is_named (codes "->") f) (is_named (codes "call") f) (is_named (codes "clause") f)
+    (no_name _ f 2 n.0 h) (no_name _ f 2 n.1 h) (no_name _ f 2 n.2 h) (no_name _ f 2 n.3 h) (no_name _ f 2 access_names.5 h)
     ∙ plain_called f (more a (more b none)) h)
 
 three_called : (f : List ℕ) (a b c : Tree) → is_reserved (at f 3) ≡ false → control_of (compound f (more a (more b (more c none)))) ≡ Some (User (at f 3))

@@ -1,16 +1,16 @@
 -- What a cursor leaves in what is seen is what it leaves in the part that was seen when it looked.
 use Rattle.std.proofs.Common.{◌≡◌, ℕ, ◌≤◌, List, take, sym, ap, ◌∙◌, arith}
-use Rattle.std.specs.Prelude.{IsSome, filter_map}
+use Rattle.std.specs.Prelude.{filter_map}
 use Rattle.std.proofs.lemmas.List.{take-take}
 use Rattle.std.proofs.lemmas.List.Elements.{All-same}
 use Rattle.call_patterns.specs.Keys.{GoalKeys, keys}
-use Rattle.journals.specs.Journal.{Journal, clause_named}
+use Rattle.journals.specs.Journal.{Journal}
 use Rattle.journal_base.specs.Goals.{Goal}
 use Rattle.call_patterns.specs.Candidates.{candidates}
-use Rattle.wam_machine.specs.Machine.{candidate_clauses}
-use Rattle.wam_machine.specs.Cursors.{goal_of, part, names_left, clauses_left, visits_left, AreNamed}
+use Rattle.wam_machine.specs.Machine.{candidate_named, candidate_clauses}
+use Rattle.wam_machine.specs.Cursors.{goal_of, part, names_left, clauses_left, visits_left, IsOpenTo, IsUsable, AreNamed}
 use Rattle.wam_machine.specs.Terms.{Left}
-use Rattle.wam_machine.proofs.Named.{candidates_named}
+use Rattle.wam_machine.proofs.Usable.{candidates_usable}
 
 module _ {C A : Type 0} (left : C → Goal → Journal → A) (at : C → ℕ)
     (local : (c : C) (g : Goal) (J K : Journal) → take (at c) J ≡ take (at c) K → left c g J ≡ left c g K) where
@@ -41,8 +41,8 @@ module _ {C : Type 0} (rest : C → Goal → Journal → List ℕ) (at : C → �
   pub clauses_offered : names_left rest at j c ≡ candidates (part at j c) c.procedure (keys c.goal)
       → clauses_left rest at j c ≡ candidate_clauses (part at j c) c.procedure (keys c.goal)
   unfolding clauses_left
-  clauses_offered e = ap (filter_map (clause_named (part at j c))) e
+  clauses_offered e = ap (filter_map (candidate_named (part at j c))) e
 
-  pub named_offered : names_left rest at j c ≡ candidates (part at j c) c.procedure (keys c.goal) → AreNamed rest at j c
+  pub named_offered : IsOpenTo c.used (part at j c) c.procedure → names_left rest at j c ≡ candidates (part at j c) c.procedure (keys c.goal) → AreNamed rest at j c
   unfolding AreNamed
-  named_offered e = All-same (λ k. IsSome (clause_named (part at j c) k)) (names_left rest at j c) _ e (candidates_named (part at j c) c.procedure (keys c.goal))
+  named_offered may e = All-same (IsUsable c.used (part at j c)) (names_left rest at j c) _ e (candidates_usable c.used (part at j c) c.procedure (keys c.goal) may)

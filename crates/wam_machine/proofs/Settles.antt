@@ -9,7 +9,7 @@ use Rattle.std.proofs.lemmas.Bool.{ltb-true}
 use Rattle.term_unifier.specs.Unifier.{unifier}
 use Rattle.term_builtins.specs.Meanings.{list_tree}
 use Rattle.term_builtins.specs.Table.{builtins, place_in}
-use Rattle.wam_machine.specs.Control.{Control, True, Fail, Cut, Repeat, Both, Either, IfElse, If, Not, Call, Once, Catch, Findall, Throw, Halt, HaltWith, Database, Builtin, User, control_of, control_with_none, control_with_one, control_of_either, control_with_two, control_with_three, control_with_more, plain, builtin_or_user}
+use Rattle.wam_machine.specs.Control.{Control, True, Fail, Cut, Repeat, Both, Either, IfElse, If, Not, Call, Once, Catch, Findall, Throw, Halt, HaltWith, Database, Builtin, User, control_of, control_with_none, access_with_one, control_with_one, control_of_either, control_with_two, control_with_three, control_with_more, plain, builtin_or_user}
 use Rattle.wam_machine.specs.declared.run.RunEnd.{RunEnd}
 use Rattle.wam_machine.specs.declared.run.RunEnd.TheVariants.{Exhausted, Ball, Spent}
 use Rattle.wam_machine.specs.Machine.{Next, Do, ConditionEnd, NotEnd, CatchEnd, FindallEnd, Alternative, Clauses, Right, Again, NotMark, CatchMark, FindallMark, Choice, Mode, Going, Failing, Raising, State, Setting, Report, Outcome, Goes, Ends, Unfit, no_more, over, stepping, onwards, height, cut_to, cut_back, bound_further, solving, new_copies, behind_copies, found_at, active_catch, recovering, reaching, reached, caught, trying, repeating, performing, doing, goal_move, answer, back_to, taken, move, Runs, ends, goes, beginning, Misfits, unfit, later, HasTranscript}
@@ -111,20 +111,29 @@ light_either w (compound f (more c none)) e = λ a b k. cc k
 light_either w (compound f (more c (more t none))) e = choose w (is_named (codes "->") f) _ _ (λ a b k. cc k) (λ a b k. cc k)
 light_either w (compound f (more c (more t (more u us)))) e = λ a b k. cc k
 
+light_access : (w : ℕ) (f : List ℕ) (t : Tree) → Lighter w (access_with_one f t)
+light_access w f t =
+    choose w (is_named (codes "asserta") f) _ _ (λ a b e. cc e) (
+    choose w (is_named (codes "assertz") f) _ _ (λ a b e. cc e) (
+    choose w (is_named (codes "retract") f) _ _ (λ a b e. cc e) (
+    choose w (is_named (codes "retractall") f) _ _ (λ a b e. cc e) (
+    choose w (is_named (codes "abolish") f) _ _ (λ a b e. cc e) (light_plain w f (more t none))))))
+
 light_one : (w : ℕ) (f : List ℕ) (t : Tree) → Lighter w (control_with_one f t)
 light_one w f t =
     choose w (is_named (codes "call") f) _ _ (λ a b e. cc e) (
     choose w (is_named (codes "once") f) _ _ (λ a b e. cc e) (
     choose w (is_named (codes "\\+") f) _ _ (λ a b e. cc e) (
     choose w (is_named (codes "throw") f) _ _ (λ a b e. cc e) (
-    choose w (is_named (codes "halt") f) _ _ (λ a b e. cc e) (choose w (is_named (codes "asserta") f) _ _ (λ a b e. cc e) (choose w (is_named (codes "assertz") f) _ _ (λ a b e. cc e) (light_plain w f (more t none))))))))
+    choose w (is_named (codes "halt") f) _ _ (λ a b e. cc e) (light_access w f t)))))
 
 light_two : (f : List ℕ) (t u : Tree) → Lighter (suc (weight t + (weight u + 0))) (control_with_two f t u)
 light_two f t u =
     choose _ (is_named (codes ",") f) _ _ (light_both t u) (
     choose _ (is_named (codes ";") f) _ _ (light_either _ t u) (
     choose _ (is_named (codes "->") f) _ _ (λ a b e. cc e) (
-    choose _ (is_named (codes "call") f) _ _ (λ a b e. cc e) (light_plain _ f (more t (more u none))))))
+    choose _ (is_named (codes "call") f) _ _ (λ a b e. cc e) (
+    choose _ (is_named (codes "clause") f) _ _ (λ a b e. cc e) (light_plain _ f (more t (more u none)))))))
 
 light_three : (w : ℕ) (f : List ℕ) (t u v : Tree) → Lighter w (control_with_three f t u v)
 light_three w f t u v =
@@ -192,7 +201,7 @@ module _ (x : Setting) (k : ℕ) (smaller : (s : State) → length s.stack < k �
   solving_good s t (Some m) e lt = inr (bound_further m t, refl, e, smaller (bound_further m t) lt)
 
   taken_good : (s : State) (a : Alternative) → length s.stack < k → Good x s (taken x s a)
-  taken_good s (Clauses goal rest) lt = inl (stepping-stops x s (trying goal rest) (trying-keeps goal rest))
+  taken_good s (Clauses used goal rest) lt = inl (stepping-stops x s (trying x used goal rest) (trying-keeps x used goal rest))
   taken_good s (Right goal cut) lt = inl (stepping-stops x s (onwards (Do goal cut ∷ [])) (λ t. refl))
   taken_good s Again lt = inl (stepping-stops x s repeating (λ t. refl))
   taken_good s NotMark lt = inr (s, refl, refl, smaller s lt)
@@ -239,7 +248,7 @@ module _ (x : Setting) (k : ℕ) (smaller : (s : State) → length s.stack < k �
   reaching_good : (s : State) (ball : Tree) (below : List Choice) (c : Choice) (a : Alternative) → length below < k → Good x s (reaching ball s below c a)
   reaching_good s ball below c (CatchMark catcher recovery) lt =
       recovering_good s (record (back_to s c below) { fresh = s.fresh + beyond ball }) ball recovery (unifier (renamed s.fresh ball) catcher) refl lt
-  reaching_good s ball below c (Clauses goal rest) lt = inr (record s { stack = below }, refl, refl, smaller (record s { stack = below }) lt)
+  reaching_good s ball below c (Clauses used goal rest) lt = inr (record s { stack = below }, refl, refl, smaller (record s { stack = below }) lt)
   reaching_good s ball below c (Right goal cut) lt = inr (record s { stack = below }, refl, refl, smaller (record s { stack = below }) lt)
   reaching_good s ball below c Again lt = inr (record s { stack = below }, refl, refl, smaller (record s { stack = below }) lt)
   reaching_good s ball below c NotMark lt = inr (record s { stack = below }, refl, refl, smaller (record s { stack = below }) lt)

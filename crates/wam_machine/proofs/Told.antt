@@ -10,6 +10,7 @@ use Rattle.term_store.specs.declared.cell.Cell.{Cell}
 use Rattle.term_store.specs.Shape.{Shape}
 use Rattle.term_store.specs.Terms.{term_of, meaning, HasTerm, AreNamed}
 use Rattle.term_store.specs.Later.{AreDistinct, back}
+use Rattle.wam_machine.specs.Machine as spec
 use Rattle.wam_machine.specs.Machine.{Next, Do, FindallEnd, next_under}
 use Rattle.wam_machine.specs.declared.terms.Alternative.{Alternative}
 use Rattle.wam_machine.specs.declared.terms.Alternative.TheVariants as is
@@ -18,7 +19,9 @@ use Rattle.wam_machine.specs.declared.terms.Frame.{Frame}
 use Rattle.wam_machine.specs.declared.terms.Next.{Next as Waiting}
 use Rattle.wam_machine.specs.declared.terms.Next.TheVariants as waits
 use Rattle.wam_machine.specs.declared.terms.Terms.{Terms}
-use Rattle.wam_machine.specs.Terms.{Saved, Turn, Said, OfCall, OfRight, OfCatch, OfFindall, frame_at, goals_from, goals_at, next_of, turn_of, saved_of, said, built, IsBuilt, IsWaiting, IsKeptTurn, CanBeGoal, AreFrames, IsChoice, AreChoices, AreTerms, KeepsCells, IsGrown}
+use Rattle.wam_machine.specs.declared.terms.Use.{Use}
+use Rattle.wam_machine.specs.declared.terms.Use.TheVariants as use_is
+use Rattle.wam_machine.specs.Terms.{Saved, Turn, Said, OfCall, OfRight, OfCatch, OfFindall, frame_at, goals_from, goals_at, next_of, purpose_of, use_of, turn_of, saved_of, said, built, IsBuilt, IsOfUse, IsWaiting, IsKeptTurn, CanBeGoal, AreFrames, IsChoice, AreChoices, AreTerms, KeepsCells, IsGrown}
 use Rattle.wam_machine.proofs.Stacks.{choices-without}
 use Rattle.wam_machine.proofs.Grown.{Grows, has_term-grown, raw-grown, meaning-grown, can-later, grows-back, back_bindings-later}
 
@@ -101,9 +104,18 @@ module _ (texts more : List (List ℕ)) (s u : Shape) (g : Grows texts more s u)
 
 -- ---- moments that may be gone back to
 
+use-grown : (texts more : List (List ℕ)) (s u : Shape) → Grows texts more s u → (used : Use) → IsOfUse (HasTerm (length texts) s) used → IsOfUse (HasTerm (length more) u) used
+use-grown texts more s u g use_is.Enter h = tt
+use-grown texts more s u g (use_is.Match p body) h = has_term-grown texts more s u g body h
+
+use-later : (texts more : List (List ℕ)) (s u : Shape) → Grows texts more s u → u.bindings ≡ s.bindings → (used : Use) → IsOfUse (HasTerm (length texts) s) used
+    → use_of (term_of more u) used ≡ use_of (term_of texts s) used
+use-later texts more s u g e use_is.Enter h = refl
+use-later texts more s u g e (use_is.Match p body) h = ap (λ (t : Tree). spec.Match (purpose_of p) t) (term-grown texts more s u g e body h)
+
 module _ {C : Type 0} (texts more : List (List ℕ)) (s u : Shape) (g : Grows texts more s u) (e : u.bindings ≡ s.bindings) where
   kept_turn-later : (what : Alternative C) → IsKeptTurn texts s what → IsKeptTurn more u what
-  kept_turn-later (is.Clauses c) h = has_term-grown texts more s u g c.goal h
+  kept_turn-later (is.Clauses c) h = (has_term-grown texts more s u g c.goal h.0, use-grown texts more s u g c.used h.1)
   kept_turn-later (is.Right c cut) h = (still-unbound texts more s u g e).goal c h
   kept_turn-later is.Again h = tt
   kept_turn-later is.NotMark h = tt
@@ -111,7 +123,9 @@ module _ {C : Type 0} (texts more : List (List ℕ)) (s u : Shape) (g : Grows te
   kept_turn-later (is.FindallMark c found) h = has_term-grown texts more s u g c h
 
   turn-later : (what : Alternative C) → IsKeptTurn texts s what → turn_of (term_of more u) what ≡ turn_of (term_of texts s) what
-  turn-later (is.Clauses c) h = ap (λ (t : Tree). OfCall (record { goal = t; procedure = c.procedure; cursor = c.cursor })) (term-grown texts more s u g e c.goal h)
+  turn-later (is.Clauses c) h =
+      ap₂ (λ (w : spec.Use) (t : Tree). OfCall (record { used = w; goal = t; procedure = c.procedure; cursor = c.cursor }))
+      (use-later texts more s u g e c.used h.1) (term-grown texts more s u g e c.goal h.0)
   turn-later (is.Right c cut) h = ap (λ (t : Tree). OfRight t cut) (term-grown texts more s u g e c h.0)
   turn-later is.Again h = refl
   turn-later is.NotMark h = refl
@@ -241,6 +255,10 @@ module _ {C : Type 0} (t : Terms C) (more : List (List ℕ)) (u : Shape) (h : Ar
   pub is_built-later : (c : Cell) → IsBuilt t c → IsBuilt (record t { store = u; names = more }) c
   unfolding IsBuilt
   is_built-later c b = has_term-grown t.names more t.store u g c b
+
+  pub use_built-later : (used : Use) → IsOfUse (IsBuilt t) used → IsOfUse (IsBuilt (record t { store = u; names = more })) used
+  use_built-later use_is.Enter b = tt
+  use_built-later (use_is.Match p body) b = is_built-later body b
 
   pub grown-later : u.bindings ≡ t.store.bindings → u.variables ≡ t.store.variables → AreDistinct more → AreNamed (length more) u → IsGrown t (record t { store = u; names = more })
   grown-later e f distinct named = record {

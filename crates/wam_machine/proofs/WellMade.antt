@@ -1,6 +1,6 @@
 -- Over clauses with bodies, each goal is a body at its turn.
 use Rattle.std.proofs.Common.{◌≡◌, ℕ, zero, suc, ◌+◌, ◌-◌, List, [], ◌∷◌, ◌++◌, Bool, true, false, length, take, map, refl, sym, subst}
-use Rattle.std.specs.Prelude.{pos, All, IsTrue, IfSome, IsSome, Option, Some, None, ◌==◌, ◌&&◌, ◌||◌, if◌then◌else◌, nat_le, nat_lt, codes, filter_map, slice_get, option_and_then}
+use Rattle.std.specs.Prelude.{pos, All, IsTrue, IfSome, IsSome, Option, Some, None, ◌==◌, ◌&&◌, ◌||◌, if◌then◌else◌, nat_lt, codes, filter_map, slice_get, option_and_then, option_map}
 use Rattle.std.specs.List.{cons_option}
 use Rattle.std.proofs.lemmas.List.Elements.{All-nil, All-cons, All-head, All-tail, All-append, All-take, All-drop}
 use Rattle.prolog_terms.specs.Operators.{Table}
@@ -12,18 +12,18 @@ use Rattle.prolog_terms.specs.declared.entry.Clause.{Clause}
 use Rattle.prolog_terms.specs.declared.entry.Entry.{Entry}
 use Rattle.prolog_terms.specs.declared.entry.Indicator.{Indicator}
 use Rattle.prolog_terms.specs.declared.fault.Fault.TheVariants.{Representation}
-use Rattle.journals.specs.Journal.{Journal, number_of, clause_named, added}
+use Rattle.journals.specs.Journal.{Journal, clause_named, added}
 use Rattle.call_patterns.specs.Candidates.{candidates}
 use Rattle.call_patterns.specs.Keys.{keys}
 use Rattle.term_unifier.specs.Unifier.{unifier}
 use Rattle.term_builtins.specs.Meanings.{Meaning, Holds, Equates, Writes, Puts, Raises, list_tree}
 use Rattle.term_builtins.specs.Table.{builtins, place_in}
-use Rattle.wam_machine.specs.Control.{Control, True, Fail, Cut, Repeat, Both, Either, IfElse, If, Not, Call, Once, Catch, Findall, Throw, Halt, HaltWith, Database, Builtin, User, control_of, control_with_none, control_with_one, control_of_either, control_with_two, control_with_three, control_with_more, or_call, first_body, with_added, is_true_atom, builtin_or_user, plain}
+use Rattle.wam_machine.specs.Control.{Access, Inspect, Control, True, Fail, Cut, Repeat, Both, Either, IfElse, If, Not, Call, Once, Catch, Findall, Throw, Halt, HaltWith, Database, Builtin, User, control_of, control_with_none, access_with_one, control_with_one, control_of_either, control_with_two, control_with_three, control_with_more, or_call, first_body, with_added, is_true_atom, builtin_or_user, plain}
 use Rattle.wam_machine.specs.declared.run.RunEnd.{RunEnd}
 use Rattle.wam_machine.specs.declared.run.RunEnd.TheVariants.{Exhausted, Ball, Spent, Halted}
-use Rattle.wam_machine.specs.Machine.{Next, Do, ConditionEnd, NotEnd, CatchEnd, FindallEnd, Alternative, Clauses, Right, Again, NotMark, CatchMark, FindallMark, Choice, Mode, Going, Failing, Raising, State, Setting, Outcome, Goes, Ends, Unfit, no_more, over, stepping, onwards, pushed, height, next_under, solving, numbering, body_from, entering, leaving, trying, candidate_clauses, looked, called, calling, call_with, raises, running, calling_added, denying, catching, gathering, gathered, new_copies, behind_copies, throwing, halting, cut_back, active_catch, recovering, reaching, reached, caught, repeating, performing, doing, going, back_to, taken, failing, raising, move, beginning, CanBeDone, HasBody, CanBeTaken, CanGoBack, IsWellMade, HasBodies, GoalsAreBodies, coming_to, calling_builtin, accessing}
+use Rattle.wam_machine.specs.Machine.{Use, Enter, Match, Candidate, Next, Do, ConditionEnd, NotEnd, CatchEnd, FindallEnd, Alternative, Clauses, Right, Again, NotMark, CatchMark, FindallMark, Choice, Mode, Going, Failing, Raising, State, Setting, Outcome, Goes, Ends, Unfit, no_more, over, stepping, onwards, pushed, height, next_under, solving, numbering, body_from, side_of_clause, side_of_call, first_goals, entering, leaving, trying, candidate_named, candidate_clauses, calling, call_with, raises, running, calling_added, denying, catching, gathering, gathered, new_copies, behind_copies, throwing, halting, cut_back, active_catch, recovering, reaching, reached, caught, repeating, performing, doing, going, back_to, taken, failing, raising, move, beginning, CanBeDone, HasBody, CanBeTaken, CanGoBack, IsWellMade, HasBodies, GoalsAreBodies, coming_to, calling_builtin, accessing}
 use Rattle.wam_machine.proofs.FoundAt.{found-back}
-use Rattle.wam_machine.proofs.Accessed.{GoesBeside, accessing-beside}
+use Rattle.wam_machine.proofs.Lasting.{IsNear, meeting-lasts, calling-lasts, accessing-lasts}
 use Rattle.prolog_terms.proofs.Converted.{both_true, first_true, second_true, is_converted}
 
 -- ---- bodies
@@ -80,8 +80,11 @@ plain_parts f args = builtin_or_user-parts (place_in builtins f (count args)) f 
 none_parts : (a : List ℕ) → HasParts (control_with_none a)
 none_parts a = choose (is_named (codes "true") a) _ _ tt (choose (is_named (codes "fail") a) _ _ tt (choose (is_named (codes "!") a) _ _ tt (choose (is_named (codes "repeat") a) _ _ tt (choose (is_named (codes "halt") a) _ _ tt (plain_parts a none)))))
 
+access_parts : (f : List ℕ) (a : Tree) → HasParts (access_with_one f a)
+access_parts f a = choose (is_named (codes "asserta") f) _ _ tt (choose (is_named (codes "assertz") f) _ _ tt (choose (is_named (codes "retract") f) _ _ tt (choose (is_named (codes "retractall") f) _ _ tt (choose (is_named (codes "abolish") f) _ _ tt (plain_parts f (more a none))))))
+
 one_parts : (f : List ℕ) (a : Tree) → HasParts (control_with_one f a)
-one_parts f a = choose (is_named (codes "call") f) _ _ tt (choose (is_named (codes "once") f) _ _ tt (choose (is_named (codes "\\+") f) _ _ tt (choose (is_named (codes "throw") f) _ _ tt (choose (is_named (codes "halt") f) _ _ tt (choose (is_named (codes "asserta") f) _ _ tt (choose (is_named (codes "assertz") f) _ _ tt (plain_parts f (more a none))))))))
+one_parts f a = choose (is_named (codes "call") f) _ _ tt (choose (is_named (codes "once") f) _ _ tt (choose (is_named (codes "\\+") f) _ _ tt (choose (is_named (codes "throw") f) _ _ tt (choose (is_named (codes "halt") f) _ _ tt (access_parts f a)))))
 
 three_parts : (f : List ℕ) (a b c : Tree) → HasParts (control_with_three f a b c)
 three_parts f a b c = choose (is_named (codes "catch") f) _ _ tt (choose (is_named (codes "findall") f) _ _ tt (choose (is_named (codes "call") f) _ _ tt (plain_parts f (more a (more b (more c none))))))
@@ -114,9 +117,9 @@ connected_parts a b d false false false k h = k
 
 two_parts : (f : List ℕ) (a b : Tree) → is_body (two f a b) ≡ true → HasParts (control_with_two f a b)
 two_parts f a b h =
-    connected_parts a b (if is_named (codes "call") f then Call a (more b none) else plain f (more a (more b none)))
+    connected_parts a b (if is_named (codes "call") f then Call a (more b none) else if is_named (codes "clause") f then Database (Inspect a b) else plain f (more a (more b none)))
     (is_named (codes ",") f) (is_named (codes ";") f) (is_named (codes "->") f)
-    (choose (is_named (codes "call") f) _ _ tt (plain_parts f (more a (more b none)))) h
+    (choose (is_named (codes "call") f) _ _ tt (choose (is_named (codes "clause") f) _ _ tt (plain_parts f (more a (more b none))))) h
 
 -- a body is a goal, and what it is made of are bodies
 pub parts : (g : Tree) → is_body g ≡ true → (c : Control) × (control_of g ≡ Some c) × HasParts c
@@ -187,15 +190,28 @@ body_from-done from cut c h = go (is_true_atom c.body)
     go true = All-nil CanBeDone
     go false = one_done (renamed from c.body) cut (is_body-substituted (λ v. variable (from + v)) c.body h)
 
-entering-makes : (goal : Tree) (c : Clause) (from cut : ℕ) (s : State) → HasBody c → IsWellMade s → Makes (entering goal c from cut s)
-entering-makes goal c from cut s b h = solving-makes (body_from from cut c) s (unifier (renamed from c.head) goal) (body_from-done from cut c b) h
+first_goals-done : (used : Use) (from cut : ℕ) (c : Clause) → HasBody c → All CanBeDone (first_goals used from cut c)
+first_goals-done Enter from cut c b = body_from-done from cut c b
+first_goals-done (Match purpose body) from cut c b = All-nil CanBeDone
 
-trying-makes : (goal : Tree) (cs : List Clause) (s : State) → All HasBody cs → IsWellMade s → Makes (trying goal cs s)
-trying-makes goal [] s b h = record { goals = h.goals; stack = h.stack }
-trying-makes goal (c ∷ []) s b h = entering-makes goal c s.fresh (height s) (numbering c (record s { tried = s.tried + 1 })) (All-head HasBody c [] b) (record { goals = h.goals; stack = h.stack })
-trying-makes goal (c ∷ d ∷ ds) s b h =
-    entering-makes goal c s.fresh (height s) (numbering c (leaving goal (d ∷ ds) (record s { tried = s.tried + 1 }))) (All-head HasBody c (d ∷ ds) b)
-    (let k : IsWellMade (pushed (Clauses goal (d ∷ ds)) s) = pushed-well (Clauses goal (d ∷ ds)) s (All-tail HasBody c (d ∷ ds) b) h in record { goals = k.goals; stack = k.stack })
+near-well : (s t : State) → IsNear s t → IsWellMade s → IsWellMade t
+near-well s t n h = record { goals = subst (All CanBeDone) (sym n.goals) h.goals; stack = subst (All CanGoBack) (sym n.stack) h.stack }
+
+entering-makes : (x : Setting) (used : Use) (goal : Tree) (c : Candidate) (from cut : ℕ) (s : State) → HasBody c.clause → IsWellMade s → Makes (entering x used goal c from cut s)
+entering-makes x used goal c from cut s b h =
+    meeting-lasts x IsWellMade Makes (λ t k. k) tt near-well used c.name (first_goals used from cut c.clause) s (unifier (renamed from (side_of_clause used c.clause)) (side_of_call used goal)) h
+    (λ m. record {
+      goals = all_under-done m (first_goals used from cut c.clause ++ s.goals) (All-append CanBeDone (first_goals used from cut c.clause) s.goals (first_goals-done used from cut c.clause b) h.goals);
+      stack = h.stack;
+    })
+
+trying-makes : (x : Setting) (used : Use) (goal : Tree) (cs : List Candidate) (s : State) → All (λ c. HasBody c.clause) cs → IsWellMade s → Makes (trying x used goal cs s)
+trying-makes x used goal [] s b h = record { goals = h.goals; stack = h.stack }
+trying-makes x used goal (c ∷ []) s b h =
+    entering-makes x used goal c s.fresh (height s) (numbering c.clause (record s { tried = s.tried + 1 })) (All-head (λ d. HasBody d.clause) c [] b) (record { goals = h.goals; stack = h.stack })
+trying-makes x used goal (c ∷ d ∷ ds) s b h =
+    entering-makes x used goal c s.fresh (height s) (numbering c.clause (leaving used goal (d ∷ ds) (record s { tried = s.tried + 1 }))) (All-head (λ e. HasBody e.clause) c (d ∷ ds) b)
+    (let k : IsWellMade (pushed (Clauses used goal (d ∷ ds)) s) = pushed-well (Clauses used goal (d ∷ ds)) s (All-tail (λ e. HasBody e.clause) c (d ∷ ds) b) h in record { goals = k.goals; stack = k.stack })
 
 in_all : {X : Type 0} (P : X → Type 0) (xs : List X) (k : ℕ) → All P xs → IfSome (slice_get xs k) P
 in_all P [] zero h = tt
@@ -210,28 +226,26 @@ named-body J k h = go (slice_get J k) (in_all (λ e. IfSome (added e.what) HasBo
     go None h = tt
     go (Some e) h = h
 
-all_named-bodies : (J : Journal) (ks : List ℕ) → HasBodies J → All HasBody (filter_map (clause_named J) ks)
-all_named-bodies J [] h = All-nil HasBody
+all_named-bodies : (J : Journal) (ks : List ℕ) → HasBodies J → All (λ c. HasBody c.clause) (filter_map (candidate_named J) ks)
+all_named-bodies J [] h = All-nil (λ c. HasBody c.clause)
 all_named-bodies J (k ∷ ks) h = go (clause_named J k) (named-body J k h) (all_named-bodies J ks h)
   where
-    go : (o : Option Clause) → IfSome o HasBody → All HasBody (filter_map (clause_named J) ks) → All HasBody (cons_option o (filter_map (clause_named J) ks))
+    go : (o : Option Clause) → IfSome o HasBody → All (λ c. HasBody c.clause) (filter_map (candidate_named J) ks)
+        → All (λ c. HasBody c.clause) (cons_option (option_map (λ c. record { name = k; clause = c }) o) (filter_map (candidate_named J) ks))
     go None b h = h
-    go (Some c) b h = All-cons HasBody c (filter_map (clause_named J) ks) b h
+    go (Some c) b h = All-cons (λ c. HasBody c.clause) (record { name = k; clause = c }) (filter_map (candidate_named J) ks) b h
 
-called-makes : (goal : Tree) (i : Indicator) (before : ℕ) (seen : Journal) (s : State) (o : Option ℕ) → HasBodies seen → IsWellMade s → Makes (called goal i before seen s o)
-called-makes goal i before seen s None b h = record { goals = h.goals; stack = h.stack }
-called-makes goal i before seen s (Some p) b h = trying-makes goal (candidate_clauses seen p (keys goal)) (looked before s p goal) (all_named-bodies seen (candidates seen p (keys goal)) b) (record { goals = h.goals; stack = h.stack })
+module _ (x : Setting) (b : HasBodies x.journal) where
+  tries-makes : (used : Use) (goal : Tree) (f p : ℕ) (t : State) → IsWellMade t → Makes (trying x used goal (candidate_clauses (take f x.journal) p (keys goal)) t)
+  tries-makes used goal f p t h =
+      trying-makes x used goal (candidate_clauses (take f x.journal) p (keys goal)) t
+      (all_named-bodies (take f x.journal) (candidates (take f x.journal) p (keys goal)) (All-take (λ e. IfSome (added e.what) HasBody) f x.journal b)) h
 
-calling-makes : (x : Setting) (s : State) (goal : Tree) (i : Indicator) → HasBodies x.journal → IsWellMade s → Makes (calling x s goal i)
-calling-makes x s goal i b h = go s.fronts
-  where
-    at : (f : ℕ) (fs : List ℕ) (c : Bool) → Makes (if c then called goal i s.front (take f x.journal) (record s { front = f; fronts = fs }) (number_of (take f x.journal) i) else Unfit)
-    at f fs true = called-makes goal i s.front (take f x.journal) (record s { front = f; fronts = fs }) (number_of (take f x.journal) i) (All-take (λ e. IfSome (added e.what) HasBody) f x.journal b) (record { goals = h.goals; stack = h.stack })
-    at f fs false = tt
+  calling-makes : (s : State) (goal : Tree) (i : Indicator) → IsWellMade s → Makes (calling x s goal i)
+  calling-makes s goal i h = calling-lasts x IsWellMade Makes (λ t k. k) tt near-well tries-makes s goal i h
 
-    go : (fs : List ℕ) → Makes (elim fs [ [] ↦ Unfit | f ∷ gs ↦ if nat_le s.front f && nat_le f (length x.journal) then called goal i s.front (take f x.journal) (record s { front = f; fronts = gs }) (number_of (take f x.journal) i) else Unfit ])
-    go [] = tt
-    go (f ∷ gs) = at f gs (nat_le s.front f && nat_le f (length x.journal))
+  accessing-makes : (a : Access) (s : State) → IsWellMade s → Makes (accessing x a s)
+  accessing-makes a s h = accessing-lasts x IsWellMade Makes (λ t k. k) tt near-well tries-makes a s h
 
 running-makes : (goal : Tree) (at : Indicator) (s : State) (o : Option Tree) → IfSome o (λ b. IsTrue (is_body b)) → IsWellMade s → Makes (running goal at s o)
 running-makes goal at s None b h = record { goals = h.goals; stack = h.stack }
@@ -291,12 +305,6 @@ calling_added-makes (compound f ts) added s h = go (nat_lt 255 (count ts + count
     go true = record { goals = h.goals; stack = h.stack }
     go false = running-makes (with_added (compound f ts) added) (call_with added) s (body_of (with_added (compound f ts) added)) (is_converted (with_added (compound f ts) added)) h
 
--- what is asked of the database leaves what is to be done as it is
-beside-makes : (s : State) (o : Outcome) → IsWellMade s → GoesBeside s o → Makes o
-beside-makes s (Goes t) h b = record { goals = subst (All CanBeDone) (sym b.goals) h.goals; stack = subst (All CanGoBack) (sym b.stack) h.stack }
-beside-makes s (Ends r) h b = absurd b
-beside-makes s Unfit h b = tt
-
 performing-makes : (x : Setting) (goal : Tree) (cut : ℕ) (c : Control) (s : State) → HasBodies x.journal → HasParts c → IsWellMade s → Makes (performing x goal cut c s)
 performing-makes x goal cut True s b p h = h
 performing-makes x goal cut Fail s b p h = record { goals = h.goals; stack = h.stack }
@@ -320,9 +328,9 @@ performing-makes x goal cut (Findall t g l) s b p h = gathering-makes t g l s (b
 performing-makes x goal cut (Throw t) s b p h = throwing-makes t s h
 performing-makes x goal cut Halt s b p h = over-makes x s (Halted (pos 0))
 performing-makes x goal cut (HaltWith n) s b p h = halting-makes x n s h
-performing-makes x goal cut (Database a) s b p h = beside-makes s (accessing x a s) h (accessing-beside x a s)
+performing-makes x goal cut (Database a) s b p h = accessing-makes x b a s h
 performing-makes x goal cut (Builtin row args) s b p h = builtin-makes x.ops row args s h
-performing-makes x goal cut (User i) s b p h = calling-makes x s goal i b h
+performing-makes x goal cut (User i) s b p h = calling-makes x b s goal i h
 
 stepping-makes : (x : Setting) (s : State) (then_ : State → Outcome) → Makes (then_ (record s { steps = suc s.steps })) → Makes (stepping x s then_)
 stepping-makes x s then_ h = go (s.steps == x.budget)
@@ -376,7 +384,7 @@ going-makes x s (CatchEnd k ∷ rest) b d h = go (height s == k)
     go false = record { goals = left; stack = h.stack }
 
 taken-makes : (x : Setting) (s : State) (a : Alternative) → CanBeTaken a → IsWellMade s → Makes (taken x s a)
-taken-makes x s (Clauses goal rest) t h = stepping-makes x s (trying goal rest) (trying-makes goal rest (record s { steps = suc s.steps }) t (record { goals = h.goals; stack = h.stack }))
+taken-makes x s (Clauses used goal rest) t h = stepping-makes x s (trying x used goal rest) (trying-makes x used goal rest (record s { steps = suc s.steps }) t (record { goals = h.goals; stack = h.stack }))
 taken-makes x s (Right goal cut) t h = stepping-makes x s (onwards (Do goal cut ∷ [])) (record { goals = first_done goal cut s.goals t h.goals; stack = h.stack })
 taken-makes x s Again t h = stepping-makes x s repeating (let k : IsWellMade (pushed Again s) = pushed-well Again s tt h in record { goals = k.goals; stack = k.stack })
 taken-makes x s NotMark t h = h
@@ -395,7 +403,7 @@ recovering-makes ball recovery s (Some m) h =
 reaching-makes : (ball : Tree) (s : State) (below : List Choice) (c : Choice) (a : Alternative) → CanGoBack c → All CanGoBack below → IsWellMade s → Makes (reaching ball s below c a)
 reaching-makes ball s below c (CatchMark catcher recovery) g w h =
     recovering-makes ball recovery (record (back_to s c below) { fresh = s.fresh + beyond ball }) (unifier (renamed s.fresh ball) catcher) (record { goals = g.goals; stack = w })
-reaching-makes ball s below c (Clauses goal rest) g w h = record { goals = h.goals; stack = w }
+reaching-makes ball s below c (Clauses used goal rest) g w h = record { goals = h.goals; stack = w }
 reaching-makes ball s below c (Right goal cut) g w h = record { goals = h.goals; stack = w }
 reaching-makes ball s below c Again g w h = record { goals = h.goals; stack = w }
 reaching-makes ball s below c NotMark g w h = record { goals = h.goals; stack = w }

@@ -12,6 +12,14 @@ use Rattle.term_builtins.specs.Table.{builtins, place_in}
 pub data Access : Type 0 where
   -- a clause is added at an end
   Assert : (end : End) (clause : Tree) → Access
+  -- the clauses of a head and a body are read, one after another
+  Inspect : (head body : Tree) → Access
+  -- the same by a clause, each of which is erased
+  Retract : (clause : Tree) → Access
+  -- the clauses of a head are erased
+  RetractAll : (head : Tree) → Access
+  -- the clauses of a name and arity are erased
+  Abolish : (named : Tree) → Access
 
 pub data Control : Type 0 where
   True : Control
@@ -66,6 +74,16 @@ control_with_none a =
     else if is_named (codes "halt") a then Halt
     else plain a none
 
+-- what one argument is asked of the database by
+abbrev pub access_with_one : List ℕ → Tree → Control
+access_with_one f a =
+    if is_named (codes "asserta") f then Database (Assert Front a)
+    else if is_named (codes "assertz") f then Database (Assert Back a)
+    else if is_named (codes "retract") f then Database (Retract a)
+    else if is_named (codes "retractall") f then Database (RetractAll a)
+    else if is_named (codes "abolish") f then Database (Abolish a)
+    else plain f (more a none)
+
 abbrev pub control_with_one : List ℕ → Tree → Control
 control_with_one f a =
     if is_named (codes "call") f then Call a none
@@ -73,9 +91,7 @@ control_with_one f a =
     else if is_named (codes "\\+") f then Not a
     else if is_named (codes "throw") f then Throw a
     else if is_named (codes "halt") f then HaltWith a
-    else if is_named (codes "asserta") f then Database (Assert Front a)
-    else if is_named (codes "assertz") f then Database (Assert Back a)
-    else plain f (more a none)
+    else access_with_one f a
 
 -- a `;`: a condition with an else where the left side is a `->`
 abbrev pub control_of_either : Tree → Tree → Control
@@ -93,6 +109,7 @@ control_with_two f a b =
     else if is_named (codes ";") f then control_of_either a b
     else if is_named (codes "->") f then If a b
     else if is_named (codes "call") f then Call a (more b none)
+    else if is_named (codes "clause") f then Database (Inspect a b)
     else plain f (more a (more b none))
 
 abbrev pub control_with_three : List ℕ → Tree → Tree → Tree → Control

@@ -5,7 +5,7 @@ use Rattle.wam_machine.specs.Machine.{Next, FindallEnd, Alternative, Clauses, Ri
 
 abbrev pub is_findall : Alternative → Bool
 is_findall (FindallMark list found) = true
-is_findall (Clauses goal rest) = false
+is_findall (Clauses used goal rest) = false
 is_findall (Right goal cut) = false
 is_findall Again = false
 is_findall NotMark = false

@@ -1,5 +1,5 @@
 -- What the engine finds a goal to be.
-use Rattle.std.specs.Prelude.{◌≡◌, ℕ, ℤ, ◌<◌, List, length, All, Option, Some, None, IsSome, true, IsTrue, MatchOption, codes}
+use Rattle.std.specs.Prelude.{◌≡◌, ℕ, ℤ, ◌<◌, List, [], ◌∷◌, length, All, Option, Some, None, IsSome, true, IsTrue, MatchOption, codes}
 use Rattle.prolog_terms.specs.Tree.{Tree, Trees, variable, integer}
 use Rattle.prolog_terms.specs.Clauses.{is_body, is_connective, body_of}
 use Rattle.prolog_terms.specs.declared.fault.Fault.TheVariants.{Instantiation, Representation}
@@ -8,12 +8,12 @@ use Rattle.term_store.specs.Shape.{Shape}
 use Rattle.term_store.specs.Terms.{text, trees_of, HasTerm}
 use Rattle.term_builtins.specs.Table.{builtins}
 use Rattle.wam_machine.specs.Control as spec
-use Rattle.wam_machine.specs.Control.{control_of, control_of_either, plain}
+use Rattle.wam_machine.specs.Control.{control_of, control_of_either, plain, access_with_one}
 use Rattle.wam_machine.specs.Spine.{Part, Leaf, Joint, is_plain_goal}
 use Rattle.wam_machine.specs.Machine.{State, calling_added, raises, running, call_with}
 use Rattle.wam_machine.specs.Terms.{IsGoal, IsBuilt, built}
 use Rattle.wam_machine.specs.declared.control.Access.{Access}
-use Rattle.wam_machine.specs.declared.control.Access.TheVariants.{Assert}
+use Rattle.wam_machine.specs.declared.control.Access.TheVariants.{Assert, Inspect, Retract, RetractAll, Abolish}
 use Rattle.wam_machine.specs.declared.control.Control.{Control}
 use Rattle.wam_machine.specs.declared.control.Control.TheVariants.{True, Fail, Cut, Repeat, Both, Either, IfElse, If, Not, Call, Once, Catch, Findall, Throw, Halt, HaltWith, Database, Builtin, User}
 use Rattle.wam_machine.specs.declared.bodies.Kind.{Kind}
@@ -29,10 +29,18 @@ use Rattle.wam_machine.specs.declared.terms.Terms.{Terms}
 -- what is asked of the database, where cells have these terms
 abbrev pub access_in : (Cell → Tree) → Access → spec.Access
 access_in tree (Assert end c) = spec.Assert end (tree c)
+access_in tree (Inspect h b) = spec.Inspect (tree h) (tree b)
+access_in tree (Retract c) = spec.Retract (tree c)
+access_in tree (RetractAll h) = spec.RetractAll (tree h)
+access_in tree (Abolish n) = spec.Abolish (tree n)
 
 -- so it is of the cells of what is asked
 abbrev pub IsOfAccess : (Cell → Type 0) → Access → Type 0
 IsOfAccess P (Assert end c) = P c
+IsOfAccess P (Inspect h b) = P h × P b
+IsOfAccess P (Retract c) = P c
+IsOfAccess P (RetractAll h) = P h
+IsOfAccess P (Abolish n) = P n
 
 abbrev pub IsAccess : {C : Type 0} → Terms C → Access → Type 0
 IsAccess t a = IsOfAccess (IsBuilt t) a
@@ -112,6 +120,11 @@ pub record IsFound (cells : List Cell) (goal : (Cell → Tree) → Tree) (c : Co
 pub record IsPlain (name : List ℕ) (cells : List Cell) (c : Control) : Type 0 where
   pub is : (tree : Cell → Tree) → plain name (trees_of tree cells) ≡ control_in tree c
   pub among : (count : ℕ) (s : Shape) → All (HasTerm count s) cells → AreAmong (HasTerm count s) c
+
+-- what is no control construct and has one argument is found to be this
+pub record IsAsked (name : List ℕ) (only : Cell) (c : Control) : Type 0 where
+  pub is : (tree : Cell → Tree) → access_with_one name (tree only) ≡ control_in tree c
+  pub among : (count : ℕ) (s : Shape) → All (HasTerm count s) (only ∷ []) → AreAmong (HasTerm count s) c
 
 -- the same by the terms that the cells have now
 pub record IsFoundNow {C : Type 0} (t : Terms C) (goal : Tree) (c : Control) : Type 0 where

@@ -2,6 +2,7 @@ pub mod Control
 pub mod Reserved
 pub mod Defined
 pub mod Spine
+pub mod Naming
 pub mod Machine
 pub mod Runs
 pub mod Terms
@@ -12,5 +13,7 @@ pub mod Balls
 pub mod Beyond
 pub mod Cursors
 pub mod View
+pub mod Heads
+pub mod Sweeps
 pub mod Found
 pub mod Rows

@@ -3,7 +3,7 @@
 --
 -- The goals that are still to be done stand with what their variables stand for: what is bound further is put into them too. So a
 -- state says nothing of how terms and bindings are kept.
-use Rattle.std.specs.Prelude.{IsTrue, IfSome, IsSome, All, ◌≡◌, ℕ, suc, pos, ◌+◌, ◌-◌, ◌≤◌, ◌⊎◌, Bool, true, false, ◌==◌, ◌&&◌, ◌||◌, List, [], ◌∷◌, ◌++◌, length, replicate, take, drop, nat_le, nat_lt, if◌then◌else◌, Option, Some, None, codes, filter_map, map, slice_get}
+use Rattle.std.specs.Prelude.{IsTrue, IfSome, IsSome, All, ◌≡◌, ℕ, suc, pos, ◌+◌, ◌-◌, ◌≤◌, ◌⊎◌, Bool, true, false, ◌==◌, ◌&&◌, ◌||◌, List, [], ◌∷◌, ◌++◌, length, replicate, take, drop, nat_le, nat_lt, if◌then◌else◌, Option, Some, None, codes, filter_map, map, slice_get, option_map, is_some}
 use Rattle.std.specs.List.{list_any}
 use Rattle.std.specs.Option.{option_map_or}
 use Rattle.prolog_terms.specs.Tree.{Tree, Trees, variable, integer, atom, compound, none, more, count}
@@ -20,18 +20,18 @@ use Rattle.prolog_terms.specs.declared.entry.Kind.TheVariants.{Static, Dynamic}
 use Rattle.prolog_terms.specs.declared.entry.End.{End}
 use Rattle.prolog_terms.specs.declared.entry.End.TheVariants.{Front, Back}
 use Rattle.prolog_terms.specs.declared.entry.What.{What}
-use Rattle.prolog_terms.specs.declared.entry.What.TheVariants.{Declare, Add}
+use Rattle.prolog_terms.specs.declared.entry.What.TheVariants.{Declare, Add, Erase}
 use Rattle.prolog_terms.specs.declared.fault.Fault.{Fault}
 use Rattle.prolog_terms.specs.declared.fault.Fault.TheVariants.{Instantiation, OfType, Existence, Representation, Permission, Resource}
 use Rattle.prolog_terms.specs.declared.shown.Shown.{Shown}
 use Rattle.call_patterns.specs.Keys.{GoalKeys, keys}
-use Rattle.journals.specs.Journal.{Journal, number_of, procedure_named, clause_named, added}
+use Rattle.journals.specs.Journal.{Journal, number_of, procedure_named, clause_named, is_erased, added}
 use Rattle.journal_base.specs.Space.{used, need}
 use Rattle.journal_base.specs.Legal.{Legal}
 use Rattle.call_patterns.specs.Candidates.{candidates}
 use Rattle.journal_base.specs.Goals.{Goal}
 use Rattle.journal_base.specs.View.{entries_by}
-use Rattle.prolog_clauses.specs.Formed.{clause_of}
+use Rattle.prolog_clauses.specs.Formed.{Parts, parts_of, clause_of}
 use Rattle.prolog_clauses.specs.declared.clause.Formed.{Formed}
 use Rattle.prolog_clauses.specs.declared.clause.Formed.TheVariants.{Clause as Made, Refused}
 use Rattle.term_unifier.specs.Unifier.{unifier}
@@ -39,8 +39,11 @@ use Rattle.term_builtins.specs.Meanings.{Meaning, Holds, Equates, Writes, Puts, 
 use Rattle.term_builtins.specs.Table.{builtins, indicator}
 use Rattle.prolog_writer.specs.Pieces.{written}
 use Rattle.term_builtins.specs.Answers.{row_at}
+use Rattle.wam_machine.specs.Naming.{naming_of}
 use Rattle.wam_machine.specs.Reserved.{is_reserved}
-use Rattle.wam_machine.specs.Control.{Access, Assert, Control, True, Fail, Cut, Repeat, Both, Either, IfElse, If, Not, Call, Once, Catch, Findall, Throw, Halt, HaltWith, Database, Builtin, User, control_of, first_body, with_added, body_goals}
+use Rattle.wam_machine.specs.Control.{Access, Assert, Inspect, Retract, RetractAll, Abolish, Control, True, Fail, Cut, Repeat, Both, Either, IfElse, If, Not, Call, Once, Catch, Findall, Throw, Halt, HaltWith, Database, Builtin, User, control_of, first_body, with_added, body_goals}
+use Rattle.wam_machine.specs.declared.naming.Naming.{Naming}
+use Rattle.wam_machine.specs.declared.naming.Naming.TheVariants.{Names, NamesNone}
 use Rattle.wam_machine.specs.declared.run.Event.{Event}
 use Rattle.wam_machine.specs.declared.run.Event.TheVariants.{Answer, Wrote}
 use Rattle.wam_machine.specs.declared.run.RunEnd.{RunEnd}
@@ -61,9 +64,26 @@ pub data Next : Type 0 where
   -- the end of the goal of a `findall`: its template, and the height of the stack with the mark of the `findall` on it
   FindallEnd : (template : Tree) (height : ℕ) → Next
 
+-- what becomes of a clause whose head and body were made one with a call's: it is shown, or erased
+pub data Purpose : Type 0 where
+  ToShow : Purpose
+  ToErase : Purpose
+
+-- what a call does with the clauses that it tries
+pub data Use : Type 0 where
+  -- the clause's head and the goal are made one, and the goals of its body come first
+  Enter : Use
+  -- the clause's head and the goal are made one, and its body and this term
+  Match : (purpose : Purpose) (body : Tree) → Use
+
+-- a clause with its name
+pub record Candidate : Type 0 where
+  pub name : ℕ
+  pub clause : Clause
+
 pub data Alternative : Type 0 where
-  -- the clauses that are left of a call
-  Clauses : (goal : Tree) (rest : List Clause) → Alternative
+  -- the clauses that are left of a call, and what it does with them
+  Clauses : (used : Use) (goal : Tree) (rest : List Candidate) → Alternative
   -- the right side of a `;`, or an else
   Right : (goal : Tree) (cut : ℕ) → Alternative
   -- a further turn of `repeat`
@@ -231,6 +251,41 @@ solving new s (Some m) = Goes (bound_further m (record s { goals = new ++ s.goal
 abbrev pub equating : Tree → Tree → List Next → State → Outcome
 equating a b new s = solving new s (unifier a b)
 
+-- ---- updates of the database
+
+-- an update by the run's engine, among what was done
+abbrev pub updated : Setting → What → State → State
+updated x what s = record s { deeds = s.deeds ++ Updated (record { by = x.engine; what = what }) ∷ [] }
+
+-- the last entry of a journal is the engine's
+abbrev pub ends_with_own : ℕ → Journal → Bool
+ends_with_own engine J = option_map_or (λ e. e.by == engine) (slice_get J (length J - 1)) false
+
+-- An update that was asked for is done where its front is past the one before and the last entry that is seen is the engine's: that is its
+-- entry.
+abbrev pub is_done : Setting → ℕ → Journal → Bool
+is_done x before seen = nat_lt before (length seen) && ends_with_own x.engine seen
+
+-- in what is seen there is no room for an update
+abbrev pub is_full : Setting → Journal → What → Bool
+is_full x seen what = nat_lt x.words (used seen + need what) || x.updates == length seen
+
+-- an update is asked for at the next front: what follows where it is done, and where it isn't
+abbrev pub asking : Setting → What → State → (Journal → State → Outcome) → (Journal → State → Outcome) → Outcome
+asking x what s done refused = taking x s (λ seen t. if is_done x s.front seen then done seen (updated x what t) else refused seen t)
+
+abbrev pub no_room : Fault
+no_room = Resource (codes "database")
+
+-- an update that isn't done has no room
+abbrev pub refusing : Setting → Indicator → What → Journal → State → Outcome
+refusing x at what seen s = if is_full x seen what then raises no_room at s else Unfit
+
+-- A clause is to be erased, at the next front: what follows where that is done, and where an entry has erased it before.
+abbrev pub erasing : Setting → Indicator → ℕ → State → (State → Outcome) → (State → Outcome) → Outcome
+erasing x at k s done gone =
+    asking x (Erase k) s (λ seen t. done t) (λ seen t. if is_erased seen k then gone t else refusing x at (Erase k) seen t)
+
 -- ---- calls
 
 -- A clause's variables are new ones, numbered in order of their first occurrence.
@@ -241,22 +296,56 @@ numbering c s = record s { fresh = s.fresh + c.vars }
 abbrev pub body_from : ℕ → ℕ → Clause → List Next
 body_from from cut c = map (λ goal. Do (renamed from goal) cut) (body_goals c.body)
 
--- a clause is entered: its head and the goal are made one, and its body's goals come first
-abbrev pub entering : Tree → Clause → ℕ → ℕ → State → Outcome
-entering goal c from cut s = equating (renamed from c.head) goal (body_from from cut c) s
+-- what is made one, on the side of a clause and on that of the call
+abbrev pub side_of_clause : Use → Clause → Tree
+side_of_clause Enter c = c.head
+side_of_clause (Match purpose body) c = two (codes ":-") c.head c.body
+
+abbrev pub side_of_call : Use → Tree → Tree
+side_of_call Enter goal = goal
+side_of_call (Match purpose body) goal = two (codes ":-") goal body
+
+-- what comes first then
+abbrev pub first_goals : Use → ℕ → ℕ → Clause → List Next
+first_goals Enter from cut c = body_from from cut c
+first_goals (Match purpose body) from cut c = []
+
+abbrev pub retract_at : Indicator
+retract_at = record { name = codes "retract"; arity = 1 }
+
+abbrev pub serving : Setting → Purpose → ℕ → State → Outcome
+serving x ToShow k s = Goes s
+serving x ToErase k s = erasing x retract_at k s (λ t. Goes t) (λ t. fails t)
+
+-- the two sides are one now
+abbrev pub using : Setting → Use → ℕ → State → Outcome
+using x Enter k s = Goes s
+using x (Match purpose body) k s = serving x purpose k s
+
+abbrev pub meeting : Setting → Use → ℕ → List Next → State → Option (ℕ → Tree) → Outcome
+meeting x used k new s None = fails s
+meeting x used k new s (Some m) = using x used k (bound_further m (record s { goals = new ++ s.goals }))
+
+-- a clause is tried, its variables numbered from a number on; a cut of its body goes back to a height
+abbrev pub entering : Setting → Use → Tree → Candidate → ℕ → ℕ → State → Outcome
+entering x used goal c from cut s =
+    meeting x used c.name (first_goals used from cut c.clause) s (unifier (renamed from (side_of_clause used c.clause)) (side_of_call used goal))
 
 -- an alternative is left exactly where a clause is left
-abbrev pub leaving : Tree → List Clause → State → State
-leaving goal [] s = s
-leaving goal (c ∷ cs) s = pushed (Clauses goal (c ∷ cs)) s
+abbrev pub leaving : Use → Tree → List Candidate → State → State
+leaving used goal [] s = s
+leaving used goal (c ∷ cs) s = pushed (Clauses used goal (c ∷ cs)) s
 
 -- the first of these clauses is tried; its cut takes the others away too
-abbrev pub trying : Tree → List Clause → State → Outcome
-trying goal [] s = fails s
-trying goal (c ∷ cs) s = entering goal c s.fresh (height s) (numbering c (leaving goal cs (record s { tried = s.tried + 1 })))
+abbrev pub trying : Setting → Use → Tree → List Candidate → State → Outcome
+trying x used goal [] s = fails s
+trying x used goal (c ∷ cs) s = entering x used goal c s.fresh (height s) (numbering c.clause (leaving used goal cs (record s { tried = s.tried + 1 })))
 
-abbrev pub candidate_clauses : Journal → ℕ → GoalKeys → List Clause
-candidate_clauses J p goal = filter_map (clause_named J) (candidates J p goal)
+abbrev pub candidate_named : Journal → ℕ → Option Candidate
+candidate_named J k = option_map (λ c. record { name = k; clause = c }) (clause_named J k)
+
+abbrev pub candidate_clauses : Journal → ℕ → GoalKeys → List Candidate
+candidate_clauses J p goal = filter_map (candidate_named J) (candidates J p goal)
 
 -- what the call of a goal looks for
 abbrev pub call_of : ℕ → Tree → Goal
@@ -265,13 +354,16 @@ call_of p goal = record { procedure = p; keys = keys goal }
 abbrev pub looked : ℕ → State → ℕ → Tree → State
 looked before s p goal = record s { deeds = s.deeds ++ Looked (record { before = before; front = s.front; call = call_of p goal }) ∷ [] }
 
--- a call in the journal that is seen, where the front before was so
-abbrev pub called : Tree → Indicator → ℕ → Journal → State → Option ℕ → Outcome
-called goal i before seen s None = raises (Existence i) i s
-called goal i before seen s (Some p) = trying goal (candidate_clauses seen p (keys goal)) (looked before s p goal)
+-- the clauses of a procedure that could match a goal are tried, in the journal that is seen, where the front before was so
+abbrev pub searching : Setting → Use → Tree → ℕ → Journal → State → ℕ → Outcome
+searching x used goal before seen s p = trying x used goal (candidate_clauses seen p (keys goal)) (looked before s p goal)
+
+abbrev pub called : Setting → Tree → Indicator → ℕ → Journal → State → Option ℕ → Outcome
+called x goal i before seen s None = raises (Existence i) i s
+called x goal i before seen s (Some p) = searching x Enter goal before seen s p
 
 abbrev pub calling : Setting → State → Tree → Indicator → Outcome
-calling x s goal i = taking x s (λ seen t. called goal i s.front seen t (number_of seen i))
+calling x s goal i = taking x s (λ seen t. called x goal i s.front seen t (number_of seen i))
 
 -- ---- goals that are made bodies
 
@@ -315,7 +407,7 @@ gathering template goal list s (Some body) = onwards (Do body (suc (height s)) �
 -- one more copy is found
 abbrev pub with_found : Tree → Alternative → Alternative
 with_found copy (FindallMark list found) = FindallMark list (found ++ copy ∷ [])
-with_found copy (Clauses goal rest) = Clauses goal rest
+with_found copy (Clauses used goal rest) = Clauses used goal rest
 with_found copy (Right goal cut) = Right goal cut
 with_found copy Again = Again
 with_found copy NotMark = NotMark
@@ -382,39 +474,15 @@ coming_to ops at s (Raises fault) = raises fault at s
 unfoldable pub calling_builtin : Table → ℕ → Trees → State → Outcome
 calling_builtin ops row args s = coming_to ops (indicator (row_at builtins row)) s (meaning (row_at builtins row).what s.fresh args)
 
--- ---- updates of the database
-
--- an update by the run's engine, among what was done
-abbrev pub updated : Setting → What → State → State
-updated x what s = record s { deeds = s.deeds ++ Updated (record { by = x.engine; what = what }) ∷ [] }
-
--- the last entry of a journal is the engine's
-abbrev pub ends_with_own : ℕ → Journal → Bool
-ends_with_own engine J = option_map_or (λ e. e.by == engine) (slice_get J (length J - 1)) false
-
--- An update that was asked for is done where its front is past the one before and the last entry that is seen is the engine's: that is its
--- entry.
-abbrev pub is_done : Setting → ℕ → Journal → Bool
-is_done x before seen = nat_lt before (length seen) && ends_with_own x.engine seen
-
--- in what is seen there is no room for an update
-abbrev pub is_full : Setting → Journal → What → Bool
-is_full x seen what = nat_lt x.words (used seen + need what) || x.updates == length seen
-
--- an update is asked for at the next front: what follows where it is done, and where it isn't
-abbrev pub asking : Setting → What → State → (Journal → State → Outcome) → (Journal → State → Outcome) → Outcome
-asking x what s done refused = taking x s (λ seen t. if is_done x s.front seen then done seen (updated x what t) else refused seen t)
-
-abbrev pub no_room : Fault
-no_room = Resource (codes "database")
-
--- an update that isn't done has no room
-abbrev pub refusing : Setting → Indicator → What → Journal → State → Outcome
-refusing x at what seen s = if is_full x seen what then raises no_room at s else Unfit
+-- ---- procedures that may not be used so
 
 -- no goal may change the procedure of this name and arity
 abbrev pub no_change : Indicator → Fault
 no_change i = Permission (codes "modify") (codes "static_procedure") (indicator_tree i)
+
+-- nor see its clauses
+abbrev pub no_access : Indicator → Fault
+no_access i = Permission (codes "access") (codes "private_procedure") (indicator_tree i)
 
 -- ---- clauses that are added
 
@@ -460,9 +528,149 @@ adding_formed x end s (Made c) = adding_clause x end c s (indicator_of c.head)
 abbrev pub asserting : Setting → End → Tree → State → Outcome
 asserting x end t s = adding_formed x end s (clause_of (numbered t))
 
+-- ---- clauses that are read and erased
+
+-- by the name and arity of a head; a head without them is an error of this call
+abbrev pub headed : Indicator → Tree → State → (Indicator → Outcome) → Outcome
+headed at (variable n) s with = raises Instantiation at s
+headed at (integer z) s with = raises (not_callable (integer z)) at s
+headed at (atom a) s with = with (record { name = a; arity = 0 })
+headed at (compound f ts) s with = with (record { name = f; arity = count ts })
+
+abbrev pub clause_at : Indicator
+clause_at = record { name = codes "clause"; arity = 2 }
+
+-- the call with this purpose
+abbrev pub call_for : Purpose → Indicator
+call_for ToShow = clause_at
+call_for ToErase = retract_at
+
+-- its error for a procedure that is static, a control construct or a builtin
+abbrev pub refusal_for : Purpose → Indicator → Fault
+refusal_for ToShow i = no_access i
+refusal_for ToErase i = no_change i
+
+-- the clauses of a dynamic procedure that was found are tried
+abbrev pub matching_kind : Setting → Purpose → Tree → Tree → Indicator → ℕ → Journal → State → ℕ → Kind → Outcome
+matching_kind x purpose h b i before seen s p Static = raises (refusal_for purpose i) (call_for purpose) s
+matching_kind x purpose h b i before seen s p Dynamic = searching x (Match purpose b) h before seen s p
+
+abbrev pub matching_where : Setting → Purpose → Tree → Tree → Indicator → ℕ → Journal → State → Option (ℕ × Kind) → Outcome
+matching_where x purpose h b i before seen s None = fails s
+matching_where x purpose h b i before seen s (Some d) = matching_kind x purpose h b i before seen s d.0 d.1
+
+-- the clauses of the procedure of this name and arity are tried, which is looked for in what is seen at the next front
+abbrev pub matching : Setting → Purpose → Tree → Tree → State → Indicator → Outcome
+matching x purpose h b s i =
+    if is_reserved i then raises (refusal_for purpose i) (call_for purpose) s
+    else taking x s (λ seen t. matching_where x purpose h b i s.front seen t (procedure_named seen i))
+
+-- an integer is no body
+abbrev pub unless_integer : Indicator → Tree → State → Outcome → Outcome
+unless_integer at (variable n) s then_ = then_
+unless_integer at (integer z) s then_ = raises (not_callable (integer z)) at s
+unless_integer at (atom a) s then_ = then_
+unless_integer at (compound f ts) s then_ = then_
+
+-- the clauses of this head and body are shown
+abbrev pub inspecting : Setting → Tree → Tree → State → Outcome
+inspecting x h b s = headed clause_at h s (λ i. unless_integer clause_at b s (matching x ToShow h b s i))
+
+-- those of the head and body of a clause are erased
+abbrev pub retracting : Setting → Parts → State → Outcome
+retracting x c s = headed retract_at c.head s (λ i. matching x ToErase c.head c.body s i)
+
+-- ---- clauses that are erased in one step
+
+-- Whether a clause is one of those that are erased: where a goal is given, those whose head and the goal have a unifier, and else all.
+abbrev pub is_swept : Option Tree → Clause → State → Bool
+is_swept None c s = true
+is_swept (Some goal) c s = is_some (unifier (renamed s.fresh c.head) goal)
+
+-- a clause is tried; its variables are new ones where its head is made one with a goal
+abbrev pub one_tried : Option Tree → Clause → State → State
+one_tried None c s = record s { tried = s.tried + 1 }
+one_tried (Some goal) c s = numbering c (record s { tried = s.tried + 1 })
+
+abbrev pub retract_all_at : Indicator
+retract_all_at = record { name = codes "retractall"; arity = 1 }
+
+abbrev pub abolish_at : Indicator
+abolish_at = record { name = codes "abolish"; arity = 1 }
+
+-- the call that erases such clauses
+abbrev pub sweep_at : Option Tree → Indicator
+sweep_at None = abolish_at
+sweep_at (Some goal) = retract_all_at
+
+-- Those of these clauses are erased, one after another; one that is gone is passed over, and nothing is bound.
+abbrev pub sweeping : Setting → Option Tree → List Candidate → State → Outcome
+sweeping x goal [] s = Goes s
+sweeping x goal (c ∷ cs) s =
+    if is_swept goal c.clause s
+    then erasing x (sweep_at goal) c.name (one_tried goal c.clause s) (λ t. sweeping x goal cs t) (λ t. sweeping x goal cs t)
+    else sweeping x goal cs (one_tried goal c.clause s)
+
+-- what is looked for where all clauses are erased: at no position is there a key
+abbrev pub swept_keys : Option Tree → GoalKeys
+swept_keys None = replicate 40 None
+swept_keys (Some goal) = keys goal
+
+-- the clauses of a procedure are erased, in the journal that is seen, where the front before was so
+abbrev pub sweeping_all : Setting → Option Tree → ℕ → Journal → State → ℕ → Outcome
+sweeping_all x goal before seen s p =
+    sweeping x goal (candidate_clauses seen p (swept_keys goal))
+    (record s { deeds = s.deeds ++ Looked (record { before = before; front = s.front; call = record { procedure = p; keys = swept_keys goal } }) ∷ [] })
+
+-- those of a static procedure may not be erased
+abbrev pub sweeping_kind : Setting → Indicator → Option Tree → ℕ → Journal → State → ℕ → Kind → Outcome
+sweeping_kind x i goal before seen s p Static = raises (no_change i) (sweep_at goal) s
+sweeping_kind x i goal before seen s p Dynamic = sweeping_all x goal before seen s p
+
+-- what was declared meanwhile has no clause that is to be erased
+abbrev pub declared_as : Indicator → State → Kind → Outcome
+declared_as i s Static = raises (no_change i) retract_all_at s
+declared_as i s Dynamic = Goes s
+
+abbrev pub declared_meanwhile : Setting → Indicator → Journal → State → Option (ℕ × Kind) → Outcome
+declared_meanwhile x i seen s None = refusing x retract_all_at (Declare i Dynamic) seen s
+declared_meanwhile x i seen s (Some d) = declared_as i s d.1
+
+-- a procedure that isn't declared is declared dynamic; another engine may have declared it meanwhile
+abbrev pub declaring_swept : Setting → Indicator → State → Outcome
+declaring_swept x i s = asking x (Declare i Dynamic) s (λ seen t. Goes t) (λ seen t. declared_meanwhile x i seen t (procedure_named seen i))
+
+-- what follows where the procedure isn't declared: nothing where all its clauses were to be erased
+abbrev pub absent_swept : Setting → Option Tree → Indicator → State → Outcome
+absent_swept x None i s = Goes s
+absent_swept x (Some goal) i s = declaring_swept x i s
+
+abbrev pub sweeping_where : Setting → Indicator → Option Tree → ℕ → Journal → State → Option (ℕ × Kind) → Outcome
+sweeping_where x i goal before seen s None = absent_swept x goal i s
+sweeping_where x i goal before seen s (Some d) = sweeping_kind x i goal before seen s d.0 d.1
+
+-- the clauses of the procedure of this name and arity are erased, which is looked for in what is seen at the next front
+abbrev pub sweeping_named : Setting → Option Tree → State → Indicator → Outcome
+sweeping_named x goal s i =
+    if is_reserved i then raises (no_change i) (sweep_at goal) s
+    else taking x s (λ seen t. sweeping_where x i goal s.front seen t (procedure_named seen i))
+
+-- the clauses are erased whose head and this one have a unifier
+abbrev pub clearing : Setting → Tree → State → Outcome
+clearing x h s = headed retract_all_at h s (λ i. sweeping_named x (Some h) s i)
+
+-- all clauses of a procedure are erased; it stays declared, and where it isn't there is nothing to be done
+abbrev pub abolishing : Setting → State → Naming → Outcome
+abolishing x s (Names i) = sweeping_named x None s i
+abolishing x s (NamesNone fault) = raises fault abolish_at s
+
 -- the database is asked for something
 unfoldable pub accessing : Setting → Access → State → Outcome
 accessing x (Assert end t) s = asserting x end t s
+accessing x (Inspect h b) s = inspecting x h b s
+accessing x (Retract t) s = retracting x (parts_of t) s
+accessing x (RetractAll h) s = clearing x h s
+accessing x (Abolish t) s = abolishing x s (naming_of t)
 
 -- ---- goals
 
@@ -519,7 +727,7 @@ goal_move x goal cut s None = Unfit
 goal_move x goal cut s (Some c) = doing x goal cut s c
 
 abbrev pub is_alternative : Alternative → Bool
-is_alternative (Clauses goal rest) = true
+is_alternative (Clauses used goal rest) = true
 is_alternative (Right goal cut) = true
 is_alternative Again = true
 is_alternative NotMark = false
@@ -548,7 +756,7 @@ going x s (FindallEnd t h ∷ rest) = fails (record s { goals = rest; stack = fo
 
 -- an alternative is taken, by a step; a mark is passed without one
 abbrev pub taken : Setting → State → Alternative → Outcome
-taken x s (Clauses goal rest) = stepping x s (trying goal rest)
+taken x s (Clauses used goal rest) = stepping x s (trying x used goal rest)
 taken x s (Right goal cut) = stepping x s (onwards (Do goal cut ∷ []))
 taken x s Again = stepping x s repeating
 taken x s NotMark = Goes s
@@ -586,7 +794,7 @@ catching_ball ball catcher recovery s = recovering ball recovery (record s { fre
 -- ever stands there (`CatchesHaveMarks`, below); it would be taken away.
 abbrev pub reaching : Tree → State → List Choice → Choice → Alternative → Outcome
 reaching ball s below c (CatchMark catcher recovery) = catching_ball ball catcher recovery (back_to s c below)
-reaching ball s below c (Clauses goal rest) = Goes (record s { stack = below })
+reaching ball s below c (Clauses used goal rest) = Goes (record s { stack = below })
 reaching ball s below c (Right goal cut) = Goes (record s { stack = below })
 reaching ball s below c Again = Goes (record s { stack = below })
 reaching ball s below c NotMark = Goes (record s { stack = below })
@@ -672,7 +880,7 @@ abbrev pub HasBody : Clause → Type 0
 HasBody c = IsTrue (is_body c.body)
 
 abbrev pub CanBeTaken : Alternative → Type 0
-CanBeTaken (Clauses goal rest) = All HasBody rest
+CanBeTaken (Clauses used goal rest) = All (λ c. HasBody c.clause) rest
 CanBeTaken (Right goal cut) = IsTrue (is_body goal)
 CanBeTaken Again = Unit {0}
 CanBeTaken NotMark = Unit {0}
@@ -720,7 +928,7 @@ pub data Reaches (x : Setting) (s : State) : State → Type 0 where
 
 abbrev pub is_mark : Alternative → Bool
 is_mark (CatchMark catcher recovery) = true
-is_mark (Clauses goal rest) = false
+is_mark (Clauses used goal rest) = false
 is_mark (Right goal cut) = false
 is_mark Again = false
 is_mark NotMark = false

@@ -8,11 +8,11 @@ use Rattle.prolog_terms.specs.declared.entry.Indicator.{Indicator}
 use Rattle.prolog_terms.specs.declared.entry.Kind.TheVariants.{Static, Dynamic}
 use Rattle.prolog_terms.specs.declared.entry.End.TheVariants.{Front, Back}
 use Rattle.prolog_terms.specs.declared.entry.End.{End}
-use Rattle.prolog_terms.specs.declared.entry.What.TheVariants.{Declare, Add}
+use Rattle.prolog_terms.specs.declared.entry.What.TheVariants.{Declare, Add, Erase}
 use Rattle.prolog_terms.specs.declared.fault.Fault.{Fault}
 use Rattle.prolog_terms.specs.declared.fault.Fault.TheVariants.{Instantiation, OfType, Existence, Representation, Permission, Resource}
 use Rattle.journals.specs.Journal.{Journal}
-use Rattle.wam_machine.specs.Machine.{Setting, Deed, Transcript}
+use Rattle.wam_machine.specs.Machine.{Setting, Deed, Transcript, Misfits, beginning}
 use Rattle.wam_machine.specs.declared.run.Event.{Event}
 use Rattle.wam_machine.specs.declared.run.Event.TheVariants.{Answer}
 use Rattle.wam_machine.specs.declared.run.RunEnd.{RunEnd}
@@ -83,6 +83,10 @@ changed words before behind shown = record { engine = 1; journal = before ++ beh
 -- such a goal, which shows nothing, is one ball at these fronts
 abbrev pub Refuses : Journal → Tree → List ℕ → Fault → Indicator → Type 0
 Refuses before goal fronts fault at = GivesIn (changed 1000 before [] []) goal fronts [] 1 (Ball (fault_tree fault at))
+
+-- a goal by engine 1 over this journal, which shows nothing, comes to a move that doesn't fit these fronts
+abbrev pub IsUnfit : Journal → Tree → List ℕ → Type 0
+IsUnfit journal goal fronts = Misfits (on journal 100 []) (beginning (on journal 100 []) goal fronts)
 
 abbrev pub closed : List Tree → Event
 closed values = Answer (list_of values) false
@@ -275,6 +279,59 @@ assertz_one = record { name = codes "assertz"; arity = 1 }
 abbrev pub static : List ℕ → ℕ → Fault
 static f n = Permission (codes "modify") (codes "static_procedure") (indicator_tree (record { name = f; arity = n }))
 
+-- ---- clauses that are read and erased
+
+-- an engine erases the clause of this name
+abbrev pub erases : ℕ → ℕ → Entry
+erases engine name = record { by = engine; what = Erase name }
+
+-- :- dynamic(k/1). k(1). k(2).
+abbrev pub two_dynamic : Journal
+two_dynamic = declares 0 (codes "k") 1 ∷ fact 0 (k 1) ∷ fact 0 (k 2) ∷ []
+
+-- :- dynamic(f/2). f(X,a).
+abbrev pub dynamic_pair : Journal
+dynamic_pair = declares 0 (codes "f") 2 ∷ clause 0 (two (codes "f") x a) truth 1 ∷ []
+
+-- :- dynamic(g/1). g(X) :- p(X), X = b.
+abbrev pub dynamic_rule : Journal
+dynamic_rule = declares 0 (codes "g") 1 ∷ clause 0 (one (codes "g") x) (both (p x) (equal x b)) 1 ∷ []
+
+abbrev pub any_k : Tree
+any_k = one (codes "k") x
+
+-- clause(H, B)
+abbrev pub inspects : Tree → Tree → Tree
+inspects h t = two (codes "clause") h t
+
+abbrev pub retracts : Tree → Tree
+retracts t = one (codes "retract") t
+
+abbrev pub retracts_all : Tree → Tree
+retracts_all h = one (codes "retractall") h
+
+abbrev pub abolishes : Tree → Tree
+abolishes t = one (codes "abolish") t
+
+-- F/N
+abbrev pub named : List ℕ → Tree → Tree
+named f n = two (codes "/") (atom f) n
+
+abbrev pub clause_two : Indicator
+clause_two = record { name = codes "clause"; arity = 2 }
+
+abbrev pub retract_one : Indicator
+retract_one = record { name = codes "retract"; arity = 1 }
+
+abbrev pub retract_all_one : Indicator
+retract_all_one = record { name = codes "retractall"; arity = 1 }
+
+abbrev pub abolish_one : Indicator
+abolish_one = record { name = codes "abolish"; arity = 1 }
+
+abbrev pub private : List ℕ → ℕ → Fault
+private f n = Permission (codes "access") (codes "private_procedure") (indicator_tree (record { name = f; arity = n }))
+
 abbrev pub copied_number : ℕ → ℕ → List ℕ
 copied_number zero n = []
 copied_number (suc k) n = n ∷ copied_number k n
@@ -291,6 +348,12 @@ pub record HasRows : Type 0 where
   -- a conjunction takes no step, taking an alternative takes one, and so does `=`
   pub through_a_rule : Gives a_rule 100 (one (codes "g") x) (x ∷ []) (5 ∷ 5 ∷ []) (closed (b ∷ []) ∷ []) 5 Exhausted
   pub budget_spent : Gives a_loop 10 (atom (codes "loop")) [] (copied_number 10 2) [] 10 (Spent 10)
+  -- the fronts are exactly as many as are taken: none is left, and none is missing
+  pub front_left : IsUnfit [] truth (0 ∷ [])
+  pub front_missing : IsUnfit three_facts (p b) []
+  -- none is lower than the one before, which is at first that of the beginning, and none is beyond the journal
+  pub front_below : IsUnfit three_facts (p b) (3 ∷ [])
+  pub front_beyond : IsUnfit three_facts (p b) (5 ∷ [])
   -- a variable is not bound to a term in which it stands
   pub occurring : Alone (equal x (one (codes "f") x)) [] 1 Exhausted
   -- a variable without a value is numbered from 0
@@ -528,3 +591,57 @@ pub record HasRows : Type 0 where
   pub added_meanwhile : GivesIn (changed 1000 a_dynamic (adds Back 0 (k 2) ∷ []) []) (both (one (codes "k") x) (both (assertz (k 2)) failure)) (2 ∷ 2 ∷ 3 ∷ []) [] 3 Exhausted
   -- asserta(k(2)), k(X) over k(1): the new clause comes first
   pub added_first : GivesIn (changed 1000 a_dynamic (adds Front 0 (k 2) ∷ []) (x ∷ [])) (both (asserta (k 2)) (one (codes "k") x)) (2 ∷ 3 ∷ 3 ∷ []) (opened (number 2 ∷ []) ∷ is_one ∷ []) 3 Exhausted
+  -- ---- clauses that are read and erased
+  -- clause(k(X), Y)
+  pub shown : GivesIn (changed 1000 a_dynamic [] (x ∷ y ∷ [])) (inspects any_k y) (2 ∷ []) (closed (number 1 ∷ truth ∷ []) ∷ []) 1 Exhausted
+  -- clause(g(a), Y): the body as it is by then; and clause(g(X), true), whose body has no unifier with it
+  pub shown_body : GivesIn (changed 1000 dynamic_rule [] (y ∷ [])) (inspects (one (codes "g") a) y) (2 ∷ []) (closed (both (p a) (equal a b) ∷ []) ∷ []) 1 Exhausted
+  pub shown_no_body : GivesIn (changed 1000 dynamic_rule [] (x ∷ [])) (inspects (one (codes "g") x) truth) (2 ∷ []) [] 1 Exhausted
+  -- an alternative is left where a clause is left: clause(k(X), true) over k(1) and k(2)
+  pub shown_each : GivesIn (changed 1000 two_dynamic [] (x ∷ [])) (inspects any_k truth) (3 ∷ []) (one_and_more ∷ is_two ∷ []) 2 Exhausted
+  -- of a procedure that isn't declared there are none; those of a static one, and of a name that is reserved, are private
+  pub shown_undeclared : GivesIn (changed 1000 [] [] []) (inspects any_k y) (0 ∷ []) [] 1 Exhausted
+  pub shown_static : Refuses a_static (inspects (atom (codes "foo")) y) (2 ∷ []) (private (codes "foo") 0) clause_two
+  pub shown_reserved : Refuses [] (inspects (one (codes "atom") x) y) [] (private (codes "atom") 1) clause_two
+  -- clause(X, Y), clause(4, Y), clause(X, 4) and clause(k(X), 4)
+  pub shown_unbound : Refuses [] (inspects x y) [] Instantiation clause_two
+  pub shown_integer : Refuses [] (inspects (number 4) y) [] (OfType (codes "callable") (number 4)) clause_two
+  pub shown_unbound_first : Refuses [] (inspects x (number 4)) [] Instantiation clause_two
+  pub shown_integer_body : Refuses [] (inspects any_k (number 4)) [] (OfType (codes "callable") (number 4)) clause_two
+  -- retract(k(X)): the clause is looked up at the first front, and erased at the second
+  pub retracted : GivesIn (changed 1000 a_dynamic (erases 1 1 ∷ []) (x ∷ [])) (retracts any_k) (2 ∷ 3 ∷ []) (is_one ∷ []) 1 Exhausted
+  -- where another engine has erased it meanwhile, the next one is tried, by a step
+  pub retracted_gone : GivesIn (changed 1000 a_dynamic (erases 2 1 ∷ []) (x ∷ [])) (retracts any_k) (2 ∷ 3 ∷ []) [] 1 Exhausted
+  pub retracted_next : GivesIn (changed 1000 two_dynamic (erases 2 1 ∷ erases 1 2 ∷ []) (x ∷ [])) (retracts any_k) (3 ∷ 4 ∷ 5 ∷ []) (is_two ∷ []) 2 Exhausted
+  -- retract((k(X) :- fail)): what isn't made one is not erased
+  pub retracted_other : GivesIn (changed 1000 a_dynamic [] []) (retracts (two (codes ":-") any_k failure)) (2 ∷ []) [] 1 Exhausted
+  -- with no update left for it, nothing is erased; it needs no words
+  pub retracted_full : GivesIn (record (changed 30 a_dynamic [] []) { updates = 2 }) (retracts any_k) (2 ∷ 2 ∷ []) [] 1 (Ball (fault_tree (Resource (codes "database")) retract_one))
+  pub retracted_exactly : GivesIn (record (changed 30 a_dynamic (erases 1 1 ∷ []) []) { updates = 3 }) (retracts any_k) (2 ∷ 3 ∷ []) (closed [] ∷ []) 1 Exhausted
+  -- retract(k(X)), k(X) over k(1)
+  pub retracted_called : GivesIn (changed 1000 a_dynamic (erases 1 1 ∷ []) (x ∷ [])) (both (retracts any_k) any_k) (2 ∷ 3 ∷ 3 ∷ []) [] 2 Exhausted
+  pub retracted_static : Refuses a_static (retracts (atom (codes "foo"))) (2 ∷ []) (static (codes "foo") 0) retract_one
+  -- retract(k(1)) where k/1 isn't declared; and retract(true), which takes no front
+  pub retracted_undeclared : GivesIn (changed 1000 [] [] []) (retracts (k 1)) (0 ∷ []) [] 1 Exhausted
+  pub retracted_reserved : Refuses [] (retracts truth) [] (static (codes "true") 0) retract_one
+  -- retractall(k(X)) over k(1) and k(2): nothing is bound; and retractall(k(2)), which tries k(2) alone
+  pub swept : GivesIn (changed 1000 two_dynamic (erases 1 1 ∷ erases 1 2 ∷ []) (x ∷ [])) (retracts_all any_k) (3 ∷ 4 ∷ 5 ∷ []) (is_free ∷ []) 1 Exhausted
+  pub swept_one : GivesIn (changed 1000 two_dynamic (erases 1 2 ∷ []) []) (retracts_all (k 2)) (3 ∷ 4 ∷ []) (closed [] ∷ []) 1 Exhausted
+  -- retractall(f(b,X)) over f(X,a): the clause's variables are others than the goal's of the same numbers
+  pub swept_apart : GivesIn (changed 1000 dynamic_pair (erases 1 1 ∷ []) []) (retracts_all (two (codes "f") b x)) (2 ∷ 3 ∷ []) (closed [] ∷ []) 1 Exhausted
+  -- one that is gone is passed over
+  pub swept_gone : GivesIn (changed 1000 two_dynamic (erases 2 1 ∷ erases 1 2 ∷ []) []) (retracts_all any_k) (3 ∷ 4 ∷ 5 ∷ []) (closed [] ∷ []) 1 Exhausted
+  -- what isn't declared is declared
+  pub swept_undeclared : GivesIn (changed 1000 [] (declares 1 (codes "k") 1 ∷ []) []) (retracts_all any_k) (0 ∷ 1 ∷ []) (closed [] ∷ []) 1 Exhausted
+  -- another engine declares it meanwhile: dynamic, and static
+  pub swept_meanwhile : GivesIn (changed 1000 [] (declares 2 (codes "k") 1 ∷ []) []) (retracts_all (k 1)) (0 ∷ 1 ∷ []) (closed [] ∷ []) 1 Exhausted
+  pub swept_static_meanwhile : GivesIn (changed 1000 [] (declared (codes "k") 1 ∷ []) []) (retracts_all (k 1)) (0 ∷ 1 ∷ []) [] 1 (Ball (fault_tree (static (codes "k") 1) retract_all_one))
+  pub swept_static : Refuses a_static (retracts_all (atom (codes "foo"))) (2 ∷ []) (static (codes "foo") 0) retract_all_one
+  -- abolish(k/1), k(X): it stays declared; and abolish(k/1) where it isn't declared
+  pub abolished : GivesIn (changed 1000 two_dynamic (erases 1 1 ∷ erases 1 2 ∷ []) []) (both (abolishes (named (codes "k") (number 1))) any_k) (3 ∷ 4 ∷ 5 ∷ 5 ∷ []) [] 2 Exhausted
+  pub abolished_undeclared : GivesIn (changed 1000 [] [] []) (abolishes (named (codes "k") (number 1))) (0 ∷ []) (closed [] ∷ []) 1 Exhausted
+  -- abolish(foo/0), abolish(foo/X), abolish(foo/a), abolish(foo)
+  pub abolished_static : Refuses a_static (abolishes (named (codes "foo") (number 0))) (2 ∷ []) (static (codes "foo") 0) abolish_one
+  pub abolished_unbound : Refuses a_static (abolishes (named (codes "foo") x)) [] Instantiation abolish_one
+  pub abolished_no_arity : Refuses a_static (abolishes (named (codes "foo") a)) [] (OfType (codes "integer") a) abolish_one
+  pub abolished_no_indicator : Refuses a_static (abolishes (atom (codes "foo"))) [] (OfType (codes "predicate_indicator") (atom (codes "foo"))) abolish_one

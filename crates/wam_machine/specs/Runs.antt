@@ -52,7 +52,7 @@ AreShown goal = All (λ s. IsTrue (occurs s.var goal.term)) goal.shown
 abbrev pub setting_of : Table → View → ℕ → ℕ → Goal → Journal → Setting
 setting_of ops v start budget goal J = record { engine = v.number; journal = J; words = v.words; updates = v.updates; start = start; budget = budget; shown = shown_list goal.shown; ops = ops }
 
--- A run of a goal of the command line by a base's engine, from a front on, within a budget and under an operator table: unless memory was
+-- A run of a goal by a base's engine, from a front on, within a budget and under an operator table: unless memory was
 -- wanted it is the transcript over each journal that the base stands for.
 pub record IsRunOf (ops : Table) (v : View) (start budget : ℕ) (goal : Goal) (run : Run) : Type 0 where
   pub engine : run.engine ≡ v.number

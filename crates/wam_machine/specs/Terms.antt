@@ -1,6 +1,6 @@
 -- What the engine's terms say: what is still to be done, what the variables stand for, and what may be gone back to. A goal is said
 -- as what it stands for.
-use Rattle.std.specs.Prelude.{◌≡◌, ℕ, zero, suc, ◌+◌, ◌<◌, ◌≤◌, List, [], ◌∷◌, ◌++◌, length, map, reverse, Bool, true, false, ◌||◌, IsTrue, Option, Some, None, slice_index_or, filter_map, vec_len, vec_capacity}
+use Rattle.std.specs.Prelude.{◌≡◌, ℕ, zero, suc, ◌+◌, ◌<◌, ◌≤◌, List, [], ◌∷◌, ◌++◌, length, map, reverse, Bool, true, false, ◌||◌, IsTrue, Option, Some, None, slice_index_or, filter_map, is_some, vec_len, vec_capacity}
 use Rattle.prolog_terms.specs.Tree.{Tree}
 use Rattle.prolog_terms.specs.Substitutions.{substituted, renamed}
 use Rattle.prolog_terms.specs.Clauses.{is_body}
@@ -10,7 +10,8 @@ use Rattle.term_store.specs.Terms.{raw, meaning, term_of, HasTerm, AreNamed}
 use Rattle.term_store.specs.Later.{back, CanGoBack, AreDistinct, AreLonger}
 use Rattle.term_store.specs.declared.cell.Cell.{Cell}
 use Rattle.term_unifier.specs.Unifier.{unifier}
-use Rattle.wam_machine.specs.Machine.{Next, Do, ConditionEnd, NotEnd, CatchEnd, FindallEnd, next_under, body_from}
+use Rattle.wam_machine.specs.Machine as spec
+use Rattle.wam_machine.specs.Machine.{Next, Do, ConditionEnd, NotEnd, CatchEnd, FindallEnd, next_under, side_of_clause, side_of_call, first_goals}
 use Rattle.wam_machine.specs.declared.terms.Alternative.{Alternative}
 use Rattle.wam_machine.specs.declared.terms.Alternative.TheVariants as is
 use Rattle.wam_machine.specs.declared.terms.Call.{Call}
@@ -18,12 +19,17 @@ use Rattle.wam_machine.specs.declared.terms.Choice.{Choice}
 use Rattle.wam_machine.specs.declared.terms.Frame.{Frame}
 use Rattle.wam_machine.specs.declared.terms.Next.{Next as Waiting}
 use Rattle.wam_machine.specs.declared.terms.Next.TheVariants as waits
+use Rattle.wam_machine.specs.declared.terms.Purpose.{Purpose}
+use Rattle.wam_machine.specs.declared.terms.Purpose.TheVariants as purpose
 use Rattle.wam_machine.specs.declared.terms.Terms.{Terms}
+use Rattle.wam_machine.specs.declared.terms.Use.{Use}
+use Rattle.wam_machine.specs.declared.terms.Use.TheVariants as use_is
 
 -- ---- what is said
 
--- a call whose clauses are tried: its goal, its procedure, and the cursor over the clauses that are left
+-- a call whose clauses are tried: what it does with them, its goal, its procedure, and the cursor over the clauses that are left
 pub record Left (C : Type 0) : Type 0 where
+  pub used : spec.Use
   pub goal : Tree
   pub procedure : ℕ
   pub cursor : C
@@ -83,8 +89,25 @@ goals_from (suc k) tree frames (suc i) = next_of tree (frame_at frames i).what �
 unfoldable pub goals_at : (Cell → Tree) → List Frame → ℕ → List Next
 goals_at tree frames n = goals_from n tree frames n
 
+abbrev pub purpose_of : Purpose → spec.Purpose
+purpose_of purpose.Show = spec.ToShow
+purpose_of purpose.Erase = spec.ToErase
+
+abbrev pub use_of : (Cell → Tree) → Use → spec.Use
+use_of tree use_is.Enter = spec.Enter
+use_of tree (use_is.Match p body) = spec.Match (purpose_of p) (tree body)
+
+-- so it is of its cell
+abbrev pub IsOfUse : (Cell → Type 0) → Use → Type 0
+IsOfUse P use_is.Enter = Unit {0}
+IsOfUse P (use_is.Match p body) = P body
+
 abbrev pub left_of : {C : Type 0} → (Cell → Tree) → Call C → Left C
-left_of tree c = record { goal = tree c.goal; procedure = c.procedure; cursor = c.cursor }
+left_of tree c = record { used = use_of tree c.used; goal = tree c.goal; procedure = c.procedure; cursor = c.cursor }
+
+-- so it is of the cells of a call
+abbrev pub IsOfCall : {C : Type 0} → (Cell → Type 0) → Call C → Type 0
+IsOfCall P c = P c.goal × IsOfUse P c.used
 
 abbrev pub turn_of : {C : Type 0} → (Cell → Tree) → Alternative C → Turn C
 turn_of tree (is.Clauses c) = OfCall (left_of tree c)
@@ -150,7 +173,7 @@ saved_now t a = record { turn = turn_now t a; goals = (said t).goals; bindings =
 
 -- its goal has a term, or can be done
 abbrev pub IsTurn : {C : Type 0} → Terms C → Alternative C → Type 0
-IsTurn t (is.Clauses c) = IsBuilt t c.goal
+IsTurn t (is.Clauses c) = IsOfCall (IsBuilt t) c
 IsTurn t (is.Right c h) = IsGoal t c
 IsTurn t is.Again = Unit {0}
 IsTurn t is.NotMark = Unit {0}
@@ -211,7 +234,7 @@ abbrev pub AreFrames : List (List ℕ) → Shape → List Frame → ℕ → Type
 AreFrames texts shape frames n = (i : ℕ) → i < n → IsFrame texts shape i (frame_at frames i)
 
 abbrev pub IsKeptTurn : {C : Type 0} → List (List ℕ) → Shape → Alternative C → Type 0
-IsKeptTurn texts shape (is.Clauses c) = HasTerm (length texts) shape c.goal
+IsKeptTurn texts shape (is.Clauses c) = IsOfCall (HasTerm (length texts) shape) c
 IsKeptTurn texts shape (is.Right c h) = CanBeGoal texts shape c
 IsKeptTurn texts shape is.Again = Unit {0}
 IsKeptTurn texts shape is.NotMark = Unit {0}
@@ -277,11 +300,15 @@ IsSolved goals old new done (Some m) =
 abbrev pub AreEquated : {C : Type 0} → Tree → Tree → List Next → Said C → Said C → Bool → Type 0
 AreEquated a b goals old new done = IsSolved goals old new done (unifier a b)
 
--- a clause is entered by a goal: its variables are new ones, its head and the goal are made one, and its body's goals come first,
--- their cut going back to a height
-abbrev pub IsEntered : {C : Type 0} → Tree → Clause → ℕ → Said C → Said C → Bool → Type 0
-IsEntered goal c cut old new done =
-    AreEquated (renamed old.fresh c.head) goal (body_from old.fresh cut c) (record old { fresh = old.fresh + c.vars }) new done
+-- a clause is tried by a call: its variables are new ones, the two sides are made one, and what comes first then comes first, a cut
+-- going back to a height
+abbrev pub IsEntered : {C : Type 0} → spec.Use → Tree → Clause → ℕ → Said C → Said C → Bool → Type 0
+IsEntered used goal c cut old new done =
+    AreEquated (renamed old.fresh (side_of_clause used c)) (side_of_call used goal) (first_goals used old.fresh cut c) (record old { fresh = old.fresh + c.vars }) new done
+
+-- the same without a trace: nothing is bound, and this tells whether there is a unifier
+abbrev pub IsCompared : {C : Type 0} → Tree → Clause → Said C → Said C → Bool → Type 0
+IsCompared goal c old new done = (new ≡ record old { fresh = old.fresh + c.vars }) × (done ≡ is_some (unifier (renamed old.fresh c.head) goal))
 
 -- it is the mark of a `catch`
 abbrev pub is_catch : {C : Type 0} → Turn C → Bool

@@ -9,6 +9,7 @@ use Rattle.journal_base.specs.Goals.{Goal as Asked}
 use Rattle.journals.specs.Journal.{Journal, clause_named}
 use Rattle.journal_base.specs.Looks.{most_raised, scans_of, kept_of, wants_of}
 use Rattle.prolog_terms.specs.declared.entry.Entry.{Entry}
+use Rattle.prolog_terms.specs.declared.entry.Indicator.{Indicator}
 use Rattle.prolog_terms.specs.declared.entry.What.{What}
 use Rattle.journal_base.specs.View.{View, Grows, IsSound, Out, none_out, opened, entries_by}
 use Rattle.journal_base.specs.declared.cause.How.{How}
@@ -16,13 +17,15 @@ use Rattle.journal_base.specs.declared.tally.Tally.{Tally}
 use Rattle.wam_machine.specs.Terms.{Left, Turn, OfCall, OfRight, OfRepeat, OfNot, OfCatch, OfFindall, Saved, Said, AreTerms, said, calls_in}
 use Rattle.wam_machine.specs.Cursors.{Begins, goal_of, part, clauses_left, visits_left, AreNamed}
 use Rattle.wam_machine.specs.Machine as spec
-use Rattle.wam_machine.specs.Machine.{State, Setting, Outcome, Goes, Ends, Look, Deed, Updated, Next, Do, Clauses, Right, Again, NotMark, CatchMark, FindallMark, Going, Failing, Raising, move, goal_move, trying, onwards, repeating, fails, gathered, looks_in, made_in, Report, Runs, beginning, shown_list, newest}
+use Rattle.wam_machine.specs.Machine.{State, Setting, Outcome, Goes, Ends, Look, Deed, Updated, Next, Do, Clauses, Right, Again, NotMark, CatchMark, FindallMark, Going, Failing, Raising, move, goal_move, Candidate, searching, trying, using, onwards, repeating, fails, raises, no_room, erasing, gathered, looks_in, made_in, Report, Runs, beginning, shown_list, newest}
 use Rattle.wam_machine.specs.Control.{control_of, first_body}
 use Rattle.wam_machine.specs.Runs.{IsFairLook, allowances}
 use Rattle.wam_machine.specs.declared.run.Event.{Event}
 use Rattle.wam_machine.specs.declared.run.Goal.{Goal}
 use Rattle.wam_machine.specs.declared.run.Run.{Run}
 use Rattle.wam_machine.specs.declared.run.RunEnd.{RunEnd}
+use Rattle.wam_machine.specs.declared.database.Erasure.{Erasure}
+use Rattle.wam_machine.specs.declared.database.Erasure.TheVariants as erasure
 use Rattle.wam_machine.specs.declared.state.Mode.{Mode}
 use Rattle.wam_machine.specs.declared.state.Mode.TheVariants.{Going as IsGoing, Failing as IsFailing, Raising as RaisingBall}
 use Rattle.wam_machine.specs.declared.state.Machine.{Machine}
@@ -39,7 +42,7 @@ mode_of IsFailing = Failing
 mode_of (RaisingBall ball) = Raising ball
 
 abbrev pub alternative_of : {C : Type 0} → (C → Asked → Journal → List ℕ) → (C → ℕ) → Journal → Turn C → spec.Alternative
-alternative_of rest at j (OfCall c) = Clauses c.goal (clauses_left rest at j c)
+alternative_of rest at j (OfCall c) = Clauses c.used c.goal (clauses_left rest at j c)
 alternative_of rest at j (OfRight goal cut) = Right goal cut
 alternative_of rest at j OfRepeat = Again
 alternative_of rest at j OfNot = NotMark
@@ -224,6 +227,23 @@ pub record Asks {C : Type 0} (v w : View) (f : Journal → State → Outcome) (o
   pub goes : (j : Journal) → Begins w j → (rest : C → Asked → Journal → List ℕ) (at : C → ℕ) (deeds : List Deed) (tried : ℕ) (fronts : List ℕ)
       → f j (state_of rest at j old deeds tried (added ++ fronts)) ≡ Goes (state_of rest at j new (deeds ++ map Updated made) tried fronts)
 
+-- What follows where an erasure was done, where the clause was gone, and where there was no room.
+abbrev pub after_erasure : Indicator → (State → Outcome) → (State → Outcome) → State → Erasure → Outcome
+after_erasure at done gone s erasure.Done = done s
+after_erasure at done gone s erasure.Gone = gone s
+after_erasure at done gone s erasure.Full = raises no_room at s
+
+-- an erasure is asked for at the next front, with the entries that the base's engine made meanwhile
+pub record Erases {C : Type 0} (h : Host) (v w : View) (k : ℕ) (old new : Machine C) (asked : Erasure) : Type 0 where
+  pub made : List Entry
+  pub own : w.own ≡ v.own ++ made
+  pub front : IsFronted w new.front
+  pub fronts_are : new.fronts.items ≡ old.fronts.items ++ new.front ∷ []
+  pub mode : new.mode ≡ old.mode
+  pub goes : (j : Journal) → Begins w j → (rest : C → Asked → Journal → List ℕ) (at : C → ℕ) (deeds : List Deed) (tried : ℕ) (fronts : List ℕ) (i : Indicator) (done gone : State → Outcome)
+      → erasing (setting h old j) i k (state_of rest at j old deeds tried (new.front ∷ fronts)) done gone
+      ≡ after_erasure i done gone (state_of rest at j new (deeds ++ map Updated made) tried fronts) asked
+
 -- a ball is raised
 abbrev pub IsRaising : Mode → Type 0
 IsRaising mode = (ball : Tree) × (mode ≡ RaisingBall ball)
@@ -234,22 +254,35 @@ abbrev pub settled_mode : Mode → Bool → Mode
 settled_mode mode true = mode
 settled_mode mode false = IsFailing
 
--- the first clause that is left of a call is tried, over a journal
-pub record Tries {C : Type 0} (rest : C → Asked → Journal → List ℕ) (may : C → Asked → Journal → ℕ) (at : C → ℕ) (ahead : C → ℕ) (j : Journal) (c : Left C) (old new : Machine C) : Type 0 where
+-- At each front from one on, this does what the search for the clauses of a procedure does.
+abbrev pub IsSearch : Setting → spec.Use → Tree → ℕ → ℕ → (ℕ → Journal → State → Outcome) → Type 0
+IsSearch x used goal from p with =
+    (before n : ℕ) (s : State) → from ≤ n → n ≤ length x.journal → with before (take n x.journal) s ≡ searching x used goal before (take n x.journal) s p
+
+-- A function of the clauses that are left of a call goes on, over a journal: the next fronts are taken, and these entries made.
+pub record Spends {C : Type 0} (rest : C → Asked → Journal → List ℕ) (may : C → Asked → Journal → ℕ) (at : C → ℕ) (ahead : C → ℕ) (made : List Entry) (f : List Candidate → State → Outcome) (j : Journal)
+    (c : Left C) (old new : Machine C) : Type 0 where
   pub given : ℕ
-  pub tried : (deeds : List Deed) (tried : ℕ) (fronts : List ℕ) → trying c.goal (clauses_left rest at j c) (state_of rest at j old deeds tried fronts) ≡ Goes (state_of rest at j new deeds (tried + given) fronts)
+  pub added : List ℕ
+  pub fronts_are : new.fronts.items ≡ old.fronts.items ++ added
+  pub goes : (deeds : List Deed) (tried : ℕ) (fronts : List ℕ)
+      → f (clauses_left rest at j c) (state_of rest at j old deeds tried (added ++ fronts)) ≡ Goes (state_of rest at j new (deeds ++ map Updated made) (tried + given) fronts)
   pub most : new.tally.visits + all_visits may at j (calls new) ≤ old.tally.visits + all_visits may at j ((calls old) ++ c ∷ [])
   pub least : old.tally.visits + given + aheads ahead (calls new) ≤ new.tally.visits + aheads ahead ((calls old) ++ c ∷ [])
   pub named : All (AreNamed rest at j) (calls new)
 
+-- the first clause that is left of a call is tried
+abbrev pub Tries : {C : Type 0} → (C → Asked → Journal → List ℕ) → (C → Asked → Journal → ℕ) → (C → ℕ) → (C → ℕ) → List Entry → Setting → Left C → Machine C → Machine C → Type 0
+Tries rest may at ahead made x c old new = Spends rest may at ahead made (trying x c.used c.goal) x.journal c old new
+
 -- going on with an alternative that was taken
-abbrev pub resuming : spec.Alternative → State → Outcome
-resuming (Clauses goal rest) s = trying goal rest s
-resuming (Right goal cut) s = onwards (Do goal cut ∷ []) s
-resuming Again s = repeating s
-resuming NotMark s = Goes s
-resuming (CatchMark c r) s = fails s
-resuming (FindallMark l f) s = gathered l f s
+abbrev pub resuming : Setting → spec.Alternative → State → Outcome
+resuming x (Clauses used goal rest) s = trying x used goal rest s
+resuming x (Right goal cut) s = onwards (Do goal cut ∷ []) s
+resuming x Again s = repeating s
+resuming x NotMark s = Goes s
+resuming x (CatchMark c r) s = fails s
+resuming x (FindallMark l f) s = gathered l f s
 
 -- the calls with clauses left of a turn: one at most
 abbrev pub turn_calls : {C : Type 0} → Turn C → List (Left C)
@@ -260,32 +293,40 @@ turn_calls OfNot = []
 turn_calls (OfCatch c r) = []
 turn_calls (OfFindall l f) = []
 
--- the machine goes on with a turn, over a journal
-pub record Resumes {C : Type 0} (rest : C → Asked → Journal → List ℕ) (may : C → Asked → Journal → ℕ) (at : C → ℕ) (ahead : C → ℕ) (j : Journal) (turn : Turn C) (old new : Machine C) : Type 0 where
+-- the machine goes on with a turn, over a journal: the next fronts are taken, and these entries made
+pub record Resumes {C : Type 0} (rest : C → Asked → Journal → List ℕ) (may : C → Asked → Journal → ℕ) (at : C → ℕ) (ahead : C → ℕ) (made : List Entry) (x : Setting) (turn : Turn C) (old new : Machine C) : Type 0 where
   pub given : ℕ
-  pub resumed : (deeds : List Deed) (tried : ℕ) (fronts : List ℕ) → resuming (alternative_of rest at j turn) (state_of rest at j old deeds tried fronts) ≡ Goes (state_of rest at j new deeds (tried + given) fronts)
-  pub most : new.tally.visits + all_visits may at j (calls new) ≤ old.tally.visits + all_visits may at j ((calls old) ++ turn_calls turn)
+  pub added : List ℕ
+  pub fronts_are : new.fronts.items ≡ old.fronts.items ++ added
+  pub resumed : (deeds : List Deed) (tried : ℕ) (fronts : List ℕ)
+      → resuming x (alternative_of rest at x.journal turn) (state_of rest at x.journal old deeds tried (added ++ fronts)) ≡ Goes (state_of rest at x.journal new (deeds ++ map Updated made) (tried + given) fronts)
+  pub most : new.tally.visits + all_visits may at x.journal (calls new) ≤ old.tally.visits + all_visits may at x.journal ((calls old) ++ turn_calls turn)
   pub least : old.tally.visits + given + aheads ahead (calls new) ≤ new.tally.visits + aheads ahead ((calls old) ++ turn_calls turn)
-  pub named : All (AreNamed rest at j) (calls new)
+  pub named : All (AreNamed rest at x.journal) (calls new)
 
--- a clause of a call, by its name, is tried before those that are left, over a journal
-pub record Attempts {C : Type 0} (rest : C → Asked → Journal → List ℕ) (may : C → Asked → Journal → ℕ) (at : C → ℕ) (j : Journal) (name : ℕ) (c : Left C) (old new : Machine C) : Type 0 where
+-- what follows where two sides were made one, and where they have no unifier
+abbrev pub where_met : Setting → spec.Use → ℕ → State → Bool → Outcome
+where_met x used k s true = using x used k s
+where_met x used k s false = fails s
+
+-- a clause of a call, by its name, is tried before those that are left, over a journal: so far as to whether two sides were made one
+pub record Attempts {C : Type 0} (rest : C → Asked → Journal → List ℕ) (may : C → Asked → Journal → ℕ) (at : C → ℕ) (j : Journal) (name : ℕ) (c : Left C) (old new : Machine C) (met : Bool) : Type 0 where
   pub clause : Clause
   pub clause_is : clause_named (part at j c) name ≡ Some clause
-  pub tried : (deeds : List Deed) (tried : ℕ) (fronts : List ℕ) → trying c.goal (clause ∷ clauses_left rest at j c) (state_of rest at j old deeds tried fronts) ≡ Goes (state_of rest at j new deeds (tried + 1) fronts)
+  pub tried : (x : Setting) (deeds : List Deed) (tried : ℕ) (fronts : List ℕ)
+      → trying x c.used c.goal (record { name = name; clause = clause } ∷ clauses_left rest at j c) (state_of rest at j old deeds tried fronts)
+      ≡ where_met x c.used name (state_of rest at j new deeds (tried + 1) fronts) met
 
 -- the stack is as it was, or the call lies on it
 abbrev pub IsPushed : {C : Type 0} → Left C → List (Left C) → List (Left C) → Type 0
 IsPushed c old new = (new ≡ old) ⊎ (new ≡ old ++ c ∷ [])
 
--- nothing was done but to the mode, the terms and the count of visits; the shown term is the same
+-- nothing was done but to the mode, the terms, the fronts and the count of visits; the shown term is the same
 pub record KeepsCounts {C : Type 0} (old new : Machine C) : Type 0 where
   pub terms : AreTerms new.terms
   pub shown : (said new.terms).shown ≡ (said old.terms).shown
   pub steps : new.steps ≡ old.steps
   pub events : new.events.items ≡ old.events.items
-  pub front : new.front ≡ old.front
-  pub fronts : new.fronts.items ≡ old.fronts.items
   pub tally : new.tally ≡ record old.tally { visits = new.tally.visits }
 
 -- ---- whole runs

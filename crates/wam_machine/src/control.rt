@@ -5,7 +5,7 @@ ghost use Rattle.prolog_terms.specs.Clauses.{is_named};
 ghost use Rattle.term_store.specs.Terms.{trees_of};
 ghost use Rattle.wam_machine.specs.Control.{control_of};
 ghost use Rattle.wam_machine.specs.Terms.{AreTerms, IsGoal, IsBuilt, built};
-ghost use Rattle.wam_machine.specs.Goals.{IsControl, IsFound, IsFoundNow, IsArrow, IsPlain};
+ghost use Rattle.wam_machine.specs.Goals.{IsControl, IsFound, IsFoundNow, IsArrow, IsPlain, IsAsked};
 
 use crate::terms::Terms;
 use prolog_terms::{End, Indicator, Name, Want};
@@ -18,6 +18,14 @@ use term_store::{Cell, View};
 pub(crate) enum Access {
     /// A clause is added at an end.
     Assert(End, Cell),
+    /// The clauses of a head and a body are shown, one after another.
+    Inspect(Cell, Cell),
+    /// The same by a clause, and each is erased.
+    Retract(Cell),
+    /// The clauses of a head are erased.
+    RetractAll(Cell),
+    /// The clauses of a name and arity are erased.
+    Abolish(Cell),
 }
 
 /// What a goal is: one that the machine does itself, or the call of a procedure.
@@ -143,11 +151,27 @@ fn one_control(alloc: Global, name: &[u8], only: Cell) -> Result<Control, Want>
     if name == b"halt".as_slice() {
         return Ok(Control::HaltWith(only));
     }
+    access_control(alloc, name, only)
+}
+
+/// What a compound of this name, which is no control construct, and this argument is as a goal.
+fn access_control(alloc: Global, name: &[u8], only: Cell) -> Result<Control, Want>
+    ensures { IfOk result (IsAsked name.now only) }
+{
     if name == b"asserta".as_slice() {
         return Ok(Control::Database(Access::Assert(End::Front, only)));
     }
     if name == b"assertz".as_slice() {
         return Ok(Control::Database(Access::Assert(End::Back, only)));
+    }
+    if name == b"retract".as_slice() {
+        return Ok(Control::Database(Access::Retract(only)));
+    }
+    if name == b"retractall".as_slice() {
+        return Ok(Control::Database(Access::RetractAll(only)));
+    }
+    if name == b"abolish".as_slice() {
+        return Ok(Control::Database(Access::Abolish(only)));
     }
     plain(alloc, name, &[only])
 }
@@ -167,6 +191,9 @@ fn two_control(alloc: Global, name: &[u8], left: Cell, right: Cell) -> Result<Co
         let mut added = Vec::new(alloc);
         added.push(right)?;
         return Ok(Control::Call(left, added));
+    }
+    if name == b"clause".as_slice() {
+        return Ok(Control::Database(Access::Inspect(left, right)));
     }
     plain(alloc, name, &[left, right])
 }

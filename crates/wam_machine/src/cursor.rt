@@ -7,10 +7,10 @@ ghost use Rattle.journals.specs.Journal.{Journal, procedures, clause_named};
 ghost use Rattle.journal_base.specs.Looks.{CountsLook, CountsVisits, HasRoom, given};
 ghost use Rattle.journal_base.specs.View.{Looks, InSeen, Gives, has_more, opened};
 ghost use Rattle.prolog_terms.specs.Clauses.{IsClause};
-ghost use Rattle.wam_machine.specs.Terms.{Left, built, call_now};
-ghost use Rattle.wam_machine.specs.Cursors.{Begins, goal_of, names_left, visits_left, IsOpened};
+ghost use Rattle.wam_machine.specs.Terms.{Left, built, call_now, use_of};
+ghost use Rattle.wam_machine.specs.Cursors.{Begins, IsOpenTo, goal_of, names_left, visits_left, IsOpened};
 
-use crate::terms::{Call, Opened, Terms};
+use crate::terms::{Call, Opened, Terms, Use};
 use call_patterns::Keys;
 use journal_base::{Base, Look, Tally};
 use prolog_terms::{Clause, Want};
@@ -20,11 +20,13 @@ use term_store::Cell;
 pub(crate) fn open<B: Base>(
     base: &mut B,
     terms: &Terms<B::Cursor>,
+    used: Use,
     goal: Cell,
     procedure: u32,
     keys: &Keys,
     tally: &mut Tally,
 ) -> Opened<B::Cursor>
+    requires may { (j : Journal) → Begins (B.view base.old) j → IsOpenTo (use_of (built terms.now) used) (take (B.view base.old).seen j) procedure }
     requires declared { InSeen (B.view base.old) (λ J. procedure < length (procedures J)) }
     requires keys { AreKeysOf terms.now.names keys.now.at }
     requires of { goal_keys terms.now.names keys.now.at ≡ keys_in (built terms.now goal) }
@@ -33,6 +35,7 @@ pub(crate) fn open<B: Base>(
 
     ensures seen { Looks (B.view base.old) (B.view base.new) }
     ensures becomes { B.becomes base.old base.new }
+    ensures used { result.call.used ≡ used }
     ensures goal { result.call.goal ≡ goal }
     ensures procedure { result.call.procedure ≡ procedure }
     ensures at { B.looked_at result.call.cursor ≡ (B.view base.new).seen }
@@ -53,6 +56,7 @@ pub(crate) fn open<B: Base>(
     let Look { cursor, how } = base.look(&asked, tally);
     let opened = Opened {
         call: Call {
+            used,
             goal,
             procedure,
             cursor,
@@ -78,6 +82,7 @@ pub(crate) fn next<B: Base>(
 
     ensures seen { Looks (B.view base.old) (B.view base.new) }
     ensures becomes { B.becomes base.old base.new }
+    ensures used { call.new.used ≡ call.old.used }
     ensures goal { call.new.goal ≡ call.old.goal }
     ensures procedure { call.new.procedure ≡ call.old.procedure }
     ensures at { B.looked_at call.new.cursor ≡ B.looked_at call.old.cursor }

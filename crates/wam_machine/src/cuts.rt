@@ -23,6 +23,7 @@ pub(crate) fn give_up<B: Base>(base: &mut B, call: Call<B::Cursor>)
     ensures others { (c : B.Cursor) (g : Goal) → B.serves base.old c g → 0 < (B.out base.new).of_group (B.group c) → B.serves base.new c g }
 {
     let Call {
+        used: _,
         goal: _,
         procedure: _,
         cursor,

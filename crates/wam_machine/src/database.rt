@@ -1,25 +1,27 @@
-// What goals ask of the database, other than calls: updates. Memory for what is asked is taken first; each front that is taken
+// What goals ask of the database, other than calls: additions, and one erasure. Memory for what is asked is taken first; each front that is taken
 // is that which the base has seen behind it.
-ghost use Rattle.std.specs.Prelude.{◌≡◌, ◌++◌, ◌∷◌, [], IfOk, OnOk, OnErr, Some, take as first_of};
+ghost use Rattle.std.specs.Prelude.{◌≡◌, ◌<◌, ◌≤◌, ◌^◌, ◌++◌, ◌∷◌, [], IfOk, OnOk, OnErr, Some, IsSome, take as first_of};
 ghost use Rattle.prolog_terms.specs.Faults.{fault_tree};
 ghost use Rattle.prolog_terms.specs.Clauses.{IsClause};
 ghost use Rattle.prolog_terms.specs.Indicators.{indicator_of};
 ghost use Rattle.prolog_terms.specs.declared.entry.Kind.TheVariants.{Dynamic};
 ghost use Rattle.journal_base.specs.Goals.{Goal};
-ghost use Rattle.journals.specs.Journal.{Journal, procedure_named};
+ghost use Rattle.journals.specs.Journal.{Journal, procedure_named, clause_named};
 ghost use Rattle.journal_base.specs.View.{Grows, Looks, IsSound};
-ghost use Rattle.wam_machine.specs.Machine.{asserting, accessing, adding_clause, adding_named, adding_to, adding, declaring, assert_at, no_change, no_room};
+ghost use Rattle.wam_machine.specs.Machine.{asserting, accessing, adding_clause, adding_named, adding_to, adding, declaring, assert_at, no_change, no_room, serving, ToErase};
 ghost use Rattle.wam_machine.specs.Goals.{IsAccess, access_in};
 ghost use Rattle.wam_machine.specs.Terms.{AreTerms, IsBuilt, built};
-ghost use Rattle.wam_machine.specs.Cursors.{Begins};
-ghost use Rattle.wam_machine.specs.View.{setting, calls, IsReady, IsLeft, AreKept, GoesOn, Makes, IsHostOf, Asks, IsFronted, HasOnlyAsked};
+ghost use Rattle.wam_machine.specs.Cursors.{Begins, IsChangeable};
+ghost use Rattle.wam_machine.specs.View.{setting, calls, IsReady, IsLeft, AreKept, GoesOn, Makes, IsHostOf, Asks, Erases, IsFronted, HasOnlyAsked};
 ghost use Rattle.wam_machine.specs.declared.state.Mode.TheVariants.{Raising};
 
 use crate::control::Access;
-use crate::errors::{assert_indicator, unchangeable, without_room};
+use crate::errors::{assert_indicator, no_room_at, retract_indicator, unchangeable, without_room};
+use crate::matching::{inspect, retract};
 use crate::reserved::is_reserved;
 use crate::state::{Host, Machine, Mode};
-use journal_base::{Added, Base, Declared};
+use crate::sweeping::{abolish, retract_all};
+use journal_base::{Added, Base, Declared, Erased, Gate};
 use prolog_clauses::{Formed, clause_of};
 use prolog_terms::{Clause, End, Indicator, Kind, Want, fault_term, term_indicator};
 use std::sync::Wait;
@@ -33,15 +35,29 @@ pub(crate) struct Addition<'a> {
     pub clause: &'a Clause,
 }
 
+/// What became of an erasure that was asked for.
+#[derive(Clone, Copy)]
+pub(crate) enum Erasure {
+    /// It is done.
+    Done,
+    /// The clause was erased before.
+    Gone,
+    /// The database has no room for it.
+    Full,
+}
+
 /// Asks the database for something.
-pub(crate) fn access<B: Base, R: Wait>(
+pub(crate) fn access<B: Base, R: Wait, G: Gate>(
     base: &mut B,
     machine: &mut Machine<B::Cursor>,
     host: &Host<'_>,
     access: Access,
     rt: &R,
+    gate: &G,
 ) -> Result<(), Want>
     requires access { IsAccess machine.old.terms access }
+    requires room { machine.old.tally.looks < machine.old.steps }
+    requires budget { host.now.budget ≤ 10 ^ 11 }
     requires host { IsHostOf host.now (B.view base.old) }
     requires ready { IsReady (B.view base.old) (B.serves base.old) B.group (B.out base.old) B.rest B.may_visit B.looked_at host.now.budget machine.old }
     ensures seen { Grows (B.view base.old) (B.view base.new) }
@@ -53,6 +69,10 @@ pub(crate) fn access<B: Base, R: Wait>(
 {
     match access {
         Access::Assert(end, clause) => assert(base, machine, host, end, clause, rt),
+        Access::Inspect(head, body) => inspect(base, machine, host, head, body, rt, gate),
+        Access::Retract(clause) => retract(base, machine, host, clause, rt, gate),
+        Access::RetractAll(head) => retract_all(base, machine, host, head, rt, gate),
+        Access::Abolish(named) => abolish(base, machine, host, named, rt, gate),
     }
 }
 
@@ -266,8 +286,79 @@ fn add<B: Base, R: Wait>(
     }
 }
 
+/// Asks for the erasure of a clause, and takes the front behind it.
+pub(crate) fn ask_erasure<B: Base, R: Wait>(
+    base: &mut B,
+    machine: &mut Machine<B::Cursor>,
+    host: &Host<'_>,
+    clause: u64,
+    rt: &R,
+) -> Result<Erasure, Want>
+    requires named { (j : Journal) → Begins (B.view base.old) j → IsSome (clause_named (first_of (B.view base.old).seen j) clause) }
+    requires changeable { (j : Journal) → Begins (B.view base.old) j → IsChangeable (first_of (B.view base.old).seen j) clause }
+    requires host { IsHostOf host.now (B.view base.old) }
+    requires sound { IsSound (B.view base.old) }
+    requires front { IsFronted (B.view base.old) machine.old.front }
+    ensures seen { Grows (B.view base.old) (B.view base.new) }
+    ensures becomes { B.becomes base.old base.new }
+    ensures others { (c : B.Cursor) (g : Goal) → B.serves base.old c g → B.serves base.new c g }
+    ensures out { B.out base.new ≡ B.out base.old }
+    ensures same { HasOnlyAsked machine.old machine.new }
+    ensures erases { IfOk result (Erases host.now (B.view base.old) (B.view base.new) clause machine.old machine.new) }
+{
+    let _host = host;
+    match base.erase(rt, clause) {
+        Erased::Done => {
+            take_front(base, machine)?;
+            Ok(Erasure::Done)
+        }
+        Erased::Gone { .. } => {
+            take_front(base, machine)?;
+            Ok(Erasure::Gone)
+        }
+        Erased::Full { .. } => {
+            take_front(base, machine)?;
+            Ok(Erasure::Full)
+        }
+    }
+}
+
+/// Erases a clause whose head and body were made one with a call's; one that is gone is a failure.
+pub(crate) fn retract_one<B: Base, R: Wait>(
+    base: &mut B,
+    machine: &mut Machine<B::Cursor>,
+    host: &Host<'_>,
+    clause: u64,
+    rt: &R,
+) -> Result<(), Want>
+    requires named { (j : Journal) → Begins (B.view base.old) j → IsSome (clause_named (first_of (B.view base.old).seen j) clause) }
+    requires changeable { (j : Journal) → Begins (B.view base.old) j → IsChangeable (first_of (B.view base.old).seen j) clause }
+    requires host { IsHostOf host.now (B.view base.old) }
+    requires sound { IsSound (B.view base.old) }
+    requires front { IsFronted (B.view base.old) machine.old.front }
+    ensures seen { Grows (B.view base.old) (B.view base.new) }
+    ensures becomes { B.becomes base.old base.new }
+    ensures others { (c : B.Cursor) (g : Goal) → B.serves base.old c g → B.serves base.new c g }
+    ensures out { B.out base.new ≡ B.out base.old }
+    ensures same { HasOnlyAsked machine.old machine.new }
+    ensures asks { OnOk result (Asks (B.view base.old) (B.view base.new) (λ j s. serving (setting host.now machine.old j) ToErase clause s) machine.old machine.new) }
+{
+    match ask_erasure(base, machine, host, clause, rt)? {
+        Erasure::Done => Ok(()),
+        Erasure::Gone => {
+            machine.mode = Mode::Failing;
+            Ok(())
+        }
+        Erasure::Full => {
+            let at = retract_indicator(host.alloc)?;
+            machine.mode = Mode::Raising(no_room_at(host.alloc, &at)?);
+            Ok(())
+        }
+    }
+}
+
 /// Takes the front that the base has.
-fn take_front<B: Base>(base: &B, machine: &mut Machine<B::Cursor>) -> Result<(), Want>
+pub(crate) fn take_front<B: Base>(base: &B, machine: &mut Machine<B::Cursor>) -> Result<(), Want>
     ensures same { HasOnlyAsked machine.old machine.new }
     ensures front { OnOk result (machine.new.front ≡ (B.view base.now).seen) }
     ensures fronts { OnOk result (machine.new.fronts.items ≡ machine.old.fronts.items ++ (B.view base.now).seen ∷ []) }

@@ -1,14 +1,16 @@
 // Terms that are made one, and clauses that are entered.
-ghost use Rattle.std.specs.Prelude.{◌≡◌, ◌+◌, ◌≤◌, ◌++◌, IfOk, OnOk, OnErr, IsTrue, [], map};
+ghost use Rattle.std.specs.Prelude.{◌≡◌, ◌+◌, ◌≤◌, ◌++◌, IfOk, OnOk, OnErr, IsTrue, IsFalse, true, None, [], length, map};
 ghost use Rattle.prolog_terms.specs.Clauses.{IsClause, is_body};
 ghost use Rattle.prolog_terms.specs.Substitutions.{renamed, beyond, substituted};
 ghost use Rattle.term_unifier.specs.Unifier.{unifier};
+ghost use Rattle.term_store.specs.Terms.{AreNamed};
+ghost use Rattle.term_store.specs.Later.{IsLater, AreDistinct, AreLonger};
 ghost use Rattle.wam_machine.specs.Control.{is_true_atom, body_goals};
 ghost use Rattle.wam_machine.specs.Machine.{Do};
-ghost use Rattle.wam_machine.specs.Terms.{AreTerms, IsBuilt, KeepsBound, said, built, AreEquated, IsEntered};
+ghost use Rattle.wam_machine.specs.Terms.{AreTerms, IsBuilt, IsOfUse, KeepsBound, KeepsCells, said, built, use_of, AreEquated, IsEntered, IsCompared};
 
 use crate::goals::push_next;
-use crate::terms::{Next, Terms};
+use crate::terms::{Next, Terms, Use};
 use prolog_terms::{Clause, Node, Term, Want};
 use term_store::Cell;
 
@@ -31,20 +33,22 @@ pub(crate) fn equate<C>(terms: &mut Terms<C>, left: Cell, right: Cell) -> Result
     Ok(false)
 }
 
-/// Enters a clause by a goal: its variables are new ones, its head and the goal are made one, and its body's goals come
-/// before what is still to be done, with a cut that goes back to a height. Where head and goal have no unifier, no variable
-/// is bound.
+/// Tries a clause by a call: its variables are new ones, and its head and the goal are made one. Where the clause is entered its
+/// body's goals come before what is still to be done, with a cut that goes back to a height; else its body and the call's are
+/// made one too. Where the two sides have no unifier, no variable is bound.
 pub(crate) fn enter<C>(
     terms: &mut Terms<C>,
+    used: Use,
     goal: Cell,
     clause: &Clause,
     cut: usize,
 ) -> Result<bool, Want>
     requires terms { AreTerms terms.old }
     requires goal { IsBuilt terms.old goal }
+    requires used { IsOfUse (IsBuilt terms.old) used }
     requires clause { IsClause clause.now }
     ensures terms { OnOk result (AreTerms terms.new) }
-    ensures entered { IfOk result (IsEntered (built terms.old goal) clause.now cut (said terms.old) (said terms.new)) }
+    ensures entered { IfOk result (IsEntered (use_of (built terms.old) used) (built terms.old goal) clause.now cut (said terms.old) (said terms.new)) }
     ensures err { OnErr result ((said terms.new).stack ≡ (said terms.old).stack) }
 {
     terms.store.known();
@@ -57,8 +61,59 @@ pub(crate) fn enter<C>(
         terms.store.undo_to(mark);
         return Ok(false);
     }
-    push_body(terms, &clause.body, from, cut)?;
-    Ok(true)
+    match used {
+        Use::Enter => {
+            push_body(terms, &clause.body, from, cut)?;
+            Ok(true)
+        }
+        Use::Match(_, body) => {
+            if !unify_body(terms, &clause.body, from, body)? {
+                terms.store.undo_to(mark);
+                return Ok(false);
+            }
+            Ok(true)
+        }
+    }
+}
+
+/// Makes a clause's body, as it is bound by now, and a cell one. Where they have no unifier, bindings may have been made.
+fn unify_body<C>(terms: &mut Terms<C>, body: &Term, from: u64, cell: Cell) -> Result<bool, Want>
+    requires terms { AreTerms terms.old }
+    requires cell { IsBuilt terms.old cell }
+    requires room { from + beyond body.now ≤ terms.old.store.variables }
+    ensures names { AreLonger terms.old.names terms.new.names }
+    ensures distinct { AreDistinct terms.new.names }
+    ensures named { AreNamed (length terms.new.names) terms.new.store }
+    ensures later { IsLater terms.old.store terms.new.store }
+    ensures variables { terms.new.store.variables ≡ terms.old.store.variables }
+    ensures same { terms.new ≡ record terms.old { names = terms.new.names; store = terms.new.store } }
+    ensures met { IfOk result (λ yes. IsTrue yes → AreTerms terms.new × AreEquated (substituted (said terms.old).bindings (renamed from body.now)) (built terms.old cell) [] (said terms.old) (said terms.new) true) }
+    ensures refused { IfOk result (λ yes. IsFalse yes → unifier (substituted (said terms.old).bindings (renamed from body.now)) (built terms.old cell) ≡ None) }
+{
+    terms.store.known();
+    let whole = terms.store.put(&mut terms.names, body, from)?;
+    terms.store.known();
+    terms.store.unify(whole, cell)
+}
+
+/// Whether a clause's head and a goal have a unifier; nothing is bound. The clause's variables are new ones.
+pub(crate) fn compare<C>(terms: &mut Terms<C>, goal: Cell, clause: &Clause) -> Result<bool, Want>
+    requires terms { AreTerms terms.old }
+    requires goal { IsBuilt terms.old goal }
+    requires clause { IsClause clause.now }
+    ensures terms { OnOk result (AreTerms terms.new) }
+    ensures names { OnOk result (AreLonger terms.old.names terms.new.names) }
+    ensures compared { IfOk result (IsCompared (built terms.old goal) clause.now (said terms.old) (said terms.new)) }
+    ensures cells { OnOk result (KeepsCells terms.old terms.new) }
+    ensures err { OnErr result ((said terms.new).stack ≡ (said terms.old).stack) }
+{
+    terms.store.known();
+    let mark = terms.store.mark();
+    let met = terms
+        .store
+        .unify_new(&mut terms.names, &clause.head, clause.vars, goal)?;
+    terms.store.undo_to(mark);
+    Ok(met)
 }
 
 /// Puts a clause's body, as it is bound by now, before what is still to be done; a body that is `true` alone has no goal.

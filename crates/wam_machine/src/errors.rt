@@ -3,8 +3,8 @@ ghost use Rattle.std.specs.Prelude.{◌≡◌, suc, ◌<◌, ◌++◌, ◌∷◌
 ghost use Rattle.prolog_terms.specs.Flat.{nodes as nodes_of};
 ghost use Rattle.prolog_terms.specs.declared.node.Node.TheVariants.{Atom, Functor};
 ghost use Rattle.prolog_terms.specs.Faults.{fault_tree, indicator_tree};
-ghost use Rattle.prolog_terms.specs.declared.fault.Fault.TheVariants.{Existence, Instantiation, Representation};
-ghost use Rattle.wam_machine.specs.Machine.{not_callable, not_integer, halt_with, assert_at, no_change, no_room};
+ghost use Rattle.prolog_terms.specs.declared.fault.Fault.TheVariants.{Existence, Instantiation, Permission, Representation};
+ghost use Rattle.wam_machine.specs.Machine.{not_callable, not_integer, halt_with, assert_at, clause_at, retract_at, retract_all_at, abolish_at, no_access, no_change, no_room};
 ghost use Rattle.wam_machine.specs.Terms.{AreTerms, IsBuilt, built};
 
 use crate::terms::Terms;
@@ -173,15 +173,54 @@ fn indicator_term(alloc: Global, indicator: &Indicator) -> Result<Term, Want>
     Ok(Term::from_prefix(nodes))
 }
 
+/// The error that a call may not do this to what is of a kind, the procedure of this name and arity.
+fn refusal(
+    alloc: Global,
+    action: &[u8],
+    kind: &[u8],
+    indicator: &Indicator,
+    at: &Indicator,
+) -> Result<Term, Want>
+    ensures { IfOk result (λ t. t ≡ fault_tree (Permission action.now kind.now (indicator_tree indicator.now)) at.now) }
+{
+    let action = Name::of(alloc, action)?;
+    let kind = Name::of(alloc, kind)?;
+    let culprit = indicator_term(alloc, indicator)?;
+    fault_term(alloc, &Fault::Permission(action, kind, culprit), at)
+}
+
+/// The error that a call may not change the procedure of this name and arity.
+pub(crate) fn unchangeable_at(
+    alloc: Global,
+    indicator: &Indicator,
+    at: &Indicator,
+) -> Result<Term, Want>
+    ensures { IfOk result (λ t. t ≡ fault_tree (no_change indicator.now) at.now) }
+{
+    refusal(alloc, b"modify", b"static_procedure", indicator, at)
+}
+
+/// The error that a call may not see the clauses of the procedure of this name and arity.
+pub(crate) fn unseen_at(alloc: Global, indicator: &Indicator, at: &Indicator) -> Result<Term, Want>
+    ensures { IfOk result (λ t. t ≡ fault_tree (no_access indicator.now) at.now) }
+{
+    refusal(alloc, b"access", b"private_procedure", indicator, at)
+}
+
 /// The error that no goal may add a clause at an end to the procedure of this name and arity.
 pub(crate) fn unchangeable(alloc: Global, indicator: &Indicator, end: End) -> Result<Term, Want>
     ensures { IfOk result (λ t. t ≡ fault_tree (no_change indicator.now) (assert_at end)) }
 {
     let at = assert_indicator(alloc, end)?;
-    let action = Name::of(alloc, b"modify")?;
-    let kind = Name::of(alloc, b"static_procedure")?;
-    let culprit = indicator_term(alloc, indicator)?;
-    fault_term(alloc, &Fault::Permission(action, kind, culprit), &at)
+    unchangeable_at(alloc, indicator, &at)
+}
+
+/// The error of a call that the database has no room for an update.
+pub(crate) fn no_room_at(alloc: Global, at: &Indicator) -> Result<Term, Want>
+    ensures { IfOk result (λ t. t ≡ fault_tree no_room at.now) }
+{
+    let fault = Fault::Resource(Name::of(alloc, b"database")?);
+    fault_term(alloc, &fault, at)
 }
 
 /// The error that the database has no room for a clause at an end.
@@ -189,6 +228,45 @@ pub(crate) fn without_room(alloc: Global, end: End) -> Result<Term, Want>
     ensures { IfOk result (λ t. t ≡ fault_tree no_room (assert_at end)) }
 {
     let at = assert_indicator(alloc, end)?;
-    let fault = Fault::Resource(Name::of(alloc, b"database")?);
-    fault_term(alloc, &fault, &at)
+    no_room_at(alloc, &at)
+}
+
+/// The name and arity of `clause`.
+pub(crate) fn clause_indicator(alloc: Global) -> Result<Indicator, Want>
+    ensures { IfOk result (λ i. i ≡ clause_at) }
+{
+    Ok(Indicator {
+        name: Name::of(alloc, b"clause")?,
+        arity: 2,
+    })
+}
+
+/// The name and arity of `retract`.
+pub(crate) fn retract_indicator(alloc: Global) -> Result<Indicator, Want>
+    ensures { IfOk result (λ i. i ≡ retract_at) }
+{
+    Ok(Indicator {
+        name: Name::of(alloc, b"retract")?,
+        arity: 1,
+    })
+}
+
+/// The name and arity of `retractall`.
+pub(crate) fn retract_all_indicator(alloc: Global) -> Result<Indicator, Want>
+    ensures { IfOk result (λ i. i ≡ retract_all_at) }
+{
+    Ok(Indicator {
+        name: Name::of(alloc, b"retractall")?,
+        arity: 1,
+    })
+}
+
+/// The name and arity of `abolish`.
+pub(crate) fn abolish_indicator(alloc: Global) -> Result<Indicator, Want>
+    ensures { IfOk result (λ i. i ≡ abolish_at) }
+{
+    Ok(Indicator {
+        name: Name::of(alloc, b"abolish")?,
+        arity: 1,
+    })
 }

@@ -1,7 +1,7 @@
 // Laws of the machine's definition.
 ghost use Rattle.wam_machine.specs.Machine.{TranscriptIsOne, StepsAreWithin, HasTranscript, GoalsAreBodies, CatchesHaveMarks, EachGoalRuns, LegalHasBodies, EngineLaws};
 ghost use Rattle.wam_machine.specs.Found.{FindallsHaveMarks};
-ghost use Rattle.wam_machine.specs.Defined.{DefinedAreCalled};
+ghost use Rattle.wam_machine.specs.Defined.{DefinedAreCalled, ReservedAreDone};
 ghost use Rattle.wam_machine.specs.Spine.{BodiesByWalk};
 ghost use Rattle.wam_machine.specs.Rows.{HasRows};
 
@@ -44,6 +44,11 @@ pub fn bodies_by_walk()
 /// where it is a goal.
 pub fn what_is_defined_is_called()
     ensures { DefinedAreCalled }
+{}
+
+/// A goal whose name and arity are reserved is never the call of a procedure.
+pub fn what_is_reserved_is_done()
+    ensures { ReservedAreDone }
 {}
 
 /// Each goal has a transcript over clauses with bodies, as those of a legal journal are, with its own updates behind them.

@@ -19,6 +19,8 @@ mod goals;
 mod keys;
 mod law;
 mod machine;
+mod matching;
+mod naming;
 mod procedures;
 mod raising;
 mod reserved;
@@ -26,12 +28,13 @@ mod run;
 mod running;
 mod shown;
 mod state;
+mod sweeping;
 mod terms;
 
 pub use engine::Engine;
 pub use law::{
     bodies_by_walk, catches_have_marks, each_goal_runs, engine_laws, findalls_have_marks, rows,
-    transcript, what_is_defined_is_called,
+    transcript, what_is_defined_is_called, what_is_reserved_is_done,
 };
 pub use reserved::is_reserved;
 pub use run::{Event, Events, Fronts, Goal, Run, RunEnd};

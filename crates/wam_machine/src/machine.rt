@@ -9,7 +9,7 @@ ghost use Rattle.wam_machine.specs.Machine.{Setting, Do, move};
 ghost use Rattle.wam_machine.specs.Terms.{AreTerms, IsGoal, IsTurn, HasNewest, said, built, turn_now, is_open, is_any_open};
 ghost use Rattle.wam_machine.specs.Goals.{IsControl, IsSimple};
 ghost use Rattle.wam_machine.specs.Cursors.{Begins, AreNamed};
-ghost use Rattle.wam_machine.specs.View.{setting, calls, turn_calls, Acts, IsReady, IsLeft, AreKept, Does, Makes, IsHostOf, Resumes, KeepsCounts, IsRaising, performs_goal};
+ghost use Rattle.wam_machine.specs.View.{setting, calls, turn_calls, Acts, IsReady, IsLeft, AreKept, Does, Makes, IsHostOf, IsFronted, Resumes, KeepsCounts, IsRaising, performs_goal};
 
 use crate::choices::{Newest, any_open, go_back, see_newest};
 use crate::constructs::{construct, repeat};
@@ -49,7 +49,7 @@ pub(crate) fn advance<B: Base, R: Wait, G: Gate>(
 {
     match &machine.mode {
         Mode::Going => go_on(base, machine, host, rt, gate),
-        Mode::Failing => retry(base, machine, host),
+        Mode::Failing => retry(base, machine, host, rt),
         Mode::Raising(_ball) => raise(base, machine, host),
     }
 }
@@ -196,7 +196,7 @@ fn perform<B: Base, R: Wait, G: Gate>(
             Ok(None)
         }
         Control::Database(asked) => {
-            access(base, machine, host, asked, rt)?;
+            access(base, machine, host, asked, rt, gate)?;
             Ok(None)
         }
         Control::Halt => Ok(Some(RunEnd::Halted(0))),
@@ -214,19 +214,21 @@ fn perform<B: Base, R: Wait, G: Gate>(
 }
 
 /// After a failure the newest alternative is taken, and a mark is passed; where there is neither the run is over.
-fn retry<B: Base>(
+fn retry<B: Base, R: Wait>(
     base: &mut B,
     machine: &mut Machine<B::Cursor>,
     host: &Host<'_>,
+    rt: &R,
 ) -> Result<Option<RunEnd>, Want>
     requires failing { machine.old.mode ≡ Mode.Failing }
+    requires host { IsHostOf host.now (B.view base.old) }
     requires ready { IsReady (B.view base.old) (B.serves base.old) B.group (B.out base.old) B.rest B.may_visit B.looked_at host.now.budget machine.old }
     requires budget { host.now.budget ≤ 10 ^ 11 }
-    ensures seen { Looks (B.view base.old) (B.view base.new) }
+    ensures seen { Grows (B.view base.old) (B.view base.new) }
     ensures becomes { B.becomes base.old base.new }
     ensures kept { AreKept (B.serves base.new) B.group (B.out base.new) (calls machine.new) }
     ensures left { OnOk result (IsLeft host.now.budget (B.view base.new) machine.old machine.new) }
-    ensures moves { IfOk result (λ o. (j : Journal) → Begins (B.view base.new) j → Does B.rest B.may_visit B.looked_at B.ahead (B.view base.new).causes [] (move (setting host.now machine.old j)) (setting host.now machine.old j) machine.old machine.new o) }
+    ensures moves { IfOk result (λ o. Makes (B.view base.old) (B.view base.new) (λ made. (j : Journal) → Begins (B.view base.new) j → Does B.rest B.may_visit B.looked_at B.ahead (B.view base.new).causes made (move (setting host.now machine.old j)) (setting host.now machine.old j) machine.old machine.new o)) }
 {
     match see_newest(&machine.terms) {
         Newest::Nothing => Ok(Some(RunEnd::Exhausted)),
@@ -234,7 +236,7 @@ fn retry<B: Base>(
             pass_mark(machine, host.alloc)?;
             Ok(None)
         }
-        Newest::Open => retake(base, machine, host),
+        Newest::Open => retake(base, machine, host, rt),
     }
 }
 
@@ -264,20 +266,22 @@ fn pass_mark<C>(machine: &mut Machine<C>, alloc: Global) -> Result<(), Want>
 }
 
 /// Takes the newest alternative, by a step.
-fn retake<B: Base>(
+fn retake<B: Base, R: Wait>(
     base: &mut B,
     machine: &mut Machine<B::Cursor>,
     host: &Host<'_>,
+    rt: &R,
 ) -> Result<Option<RunEnd>, Want>
     requires failing { machine.old.mode ≡ Mode.Failing }
+    requires host { IsHostOf host.now (B.view base.old) }
     requires newest { HasNewest (said machine.old.terms).stack true }
     requires ready { IsReady (B.view base.old) (B.serves base.old) B.group (B.out base.old) B.rest B.may_visit B.looked_at host.now.budget machine.old }
     requires budget { host.now.budget ≤ 10 ^ 11 }
-    ensures seen { Looks (B.view base.old) (B.view base.new) }
+    ensures seen { Grows (B.view base.old) (B.view base.new) }
     ensures becomes { B.becomes base.old base.new }
     ensures kept { AreKept (B.serves base.new) B.group (B.out base.new) (calls machine.new) }
     ensures left { OnOk result (IsLeft host.now.budget (B.view base.new) machine.old machine.new) }
-    ensures moves { IfOk result (λ o. (j : Journal) → Begins (B.view base.new) j → Does B.rest B.may_visit B.looked_at B.ahead (B.view base.new).causes [] (move (setting host.now machine.old j)) (setting host.now machine.old j) machine.old machine.new o) }
+    ensures moves { IfOk result (λ o. Makes (B.view base.old) (B.view base.new) (λ made. (j : Journal) → Begins (B.view base.new) j → Does B.rest B.may_visit B.looked_at B.ahead (B.view base.new).causes made (move (setting host.now machine.old j)) (setting host.now machine.old j) machine.old machine.new o)) }
 {
     if machine.steps == host.budget {
         return Ok(Some(RunEnd::Spent(machine.steps)));
@@ -287,18 +291,22 @@ fn retake<B: Base>(
         Some(what) => {
             machine.steps += 1;
             machine.mode = Mode::Going;
-            resume(base, machine, what)?;
+            resume(base, machine, host, what, rt)?;
             Ok(None)
         }
     }
 }
 
 /// Goes on with an alternative that was taken.
-fn resume<B: Base>(
+fn resume<B: Base, R: Wait>(
     base: &mut B,
     machine: &mut Machine<B::Cursor>,
+    host: &Host<'_>,
     what: Alternative<B::Cursor>,
+    rt: &R,
 ) -> Result<(), Want>
+    requires host { IsHostOf host.now (B.view base.old) }
+    requires front { IsFronted (B.view base.old) machine.old.front }
     requires sound { IsSound (B.view base.old) }
     requires terms { AreTerms machine.old.terms }
     requires turn { IsTurn machine.old.terms what }
@@ -306,16 +314,18 @@ fn resume<B: Base>(
     requires kept { AreKept (B.serves base.old) B.group (B.out base.old) (calls machine.old ++ turn_calls (turn_now machine.old.terms what)) }
     requires named { (j : Journal) → Begins (B.view base.old) j → All (AreNamed B.rest B.looked_at j) (calls machine.old ++ turn_calls (turn_now machine.old.terms what)) }
     requires room { HasRoom machine.old.tally }
-    ensures seen { Looks (B.view base.old) (B.view base.new) }
+    ensures seen { Grows (B.view base.old) (B.view base.new) }
     ensures becomes { B.becomes base.old base.new }
     ensures kept { AreKept (B.serves base.new) B.group (B.out base.new) (calls machine.new) }
     ensures counts { OnOk result (KeepsCounts machine.old machine.new) }
+    ensures front { OnOk result (IsFronted (B.view base.new) machine.new.front) }
     ensures grown { OnOk result (length (calls machine.new) ≤ length (calls machine.old) + length (turn_calls (turn_now machine.old.terms what))) }
-    ensures resumed { OnOk result ((j : Journal) → Begins (B.view base.new) j → Resumes B.rest B.may_visit B.looked_at B.ahead j (turn_now machine.old.terms what) machine.old machine.new) }
+    ensures resumed { OnOk result (Makes (B.view base.old) (B.view base.new) (λ made. (j : Journal) → Begins (B.view base.new) j
+        → Resumes B.rest B.may_visit B.looked_at B.ahead made (setting host.now machine.old j) (turn_now machine.old.terms what) machine.old machine.new)) }
 {
     match what {
         Alternative::Clauses(call) => {
-            take(base, machine, call)?;
+            take(base, machine, host, call, rt)?;
             Ok(())
         }
         Alternative::Right(goal, cut) => {

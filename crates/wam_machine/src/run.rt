@@ -73,7 +73,8 @@ impl Events {
     }
 }
 
-/// The fronts of a run: the lengths of the journal at each call of a procedure, in order.
+/// The fronts of a run: the length of the journal at each call of a procedure, each check of one and each update that was asked
+/// for, in order.
 #[derive(Debug, Drop)]
 pub struct Fronts {
     fronts: Vec<u64>,
@@ -114,7 +115,7 @@ pub struct Run {
     pub shown: ShownVariables,
     /// What happened, in order.
     pub transcript: Events,
-    /// The journal's length at each call of a procedure, in order.
+    /// The journal's length at each call, each check and each update that was asked for, in order.
     pub fronts: Fronts,
     /// The cost of its looks.
     pub tally: Tally,

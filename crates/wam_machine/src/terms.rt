@@ -5,8 +5,28 @@ use journal_base::How;
 use prolog_terms::{Names, Term};
 use term_store::{Cell, Store, Trailed};
 
-/// A call whose clauses are tried one after another: its goal, its procedure, and the cursor over the clauses that are left.
+/// What becomes of a clause whose head and body were made one with a call's.
+#[derive(Clone, Copy)]
+pub(crate) enum Purpose {
+    /// It is shown.
+    Show,
+    /// It is erased.
+    Erase,
+}
+
+/// What a call does with the clauses that it tries.
+#[derive(Clone, Copy)]
+pub(crate) enum Use {
+    /// A clause's head and the goal are made one, and the goals of its body come first.
+    Enter,
+    /// A clause's head and the goal are made one, and its body and this cell.
+    Match(Purpose, Cell),
+}
+
+/// A call whose clauses are tried one after another: what it does with them, its goal, its procedure, and the cursor over the
+/// clauses that are left.
 pub(crate) struct Call<C> {
+    pub used: Use,
     pub goal: Cell,
     pub procedure: u32,
     pub cursor: C,

@@ -5,4 +5,4 @@ use Rattle.journal_base.proofs.law.worked_words.Goals as goal
 
 pub returns : goal.returns
 unfolding need clause_words keys
-returns c = record { declaration_words = refl; addition_words = refl; erasure_words = refl }
+returns c = record { declaration_words = refl; addition_words = refl; variable_words = refl; inner_words = refl; erasure_words = refl }

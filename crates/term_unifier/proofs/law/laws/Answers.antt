@@ -1,4 +1,5 @@
 use Rattle.term_unifier.proofs.Known.{unifier-IsUnifier, unifier-same}
+use Rattle.term_unifier.proofs.Pairs.{in_turn}
 use Rattle.term_unifier.proofs.Cases.{decomposition, elimination, younger_to_older, identity, occurs_check, clash, symmetry, idempotence}
 use Rattle.term_unifier.proofs.law.laws.Goals as goal
 
@@ -7,6 +8,9 @@ returns-clause-most_general c = unifier-IsUnifier
 
 pub returns-clause-decomposition : goal.returns-clause-decomposition
 returns-clause-decomposition c = decomposition
+
+pub returns-clause-in_turn : goal.returns-clause-in_turn
+returns-clause-in_turn c = in_turn
 
 pub returns-clause-same_unifiers : goal.returns-clause-same_unifiers
 returns-clause-same_unifiers c = unifier-same

@@ -10,15 +10,6 @@ use Rattle.wam_machine.proofs.BallMoves.{does_raising}
 use Rattle.wam_machine.proofs.Begins.{makes_none_ok}
 use Rattle.wam_machine.proofs.machine.advance.Goals as goal
 
-pub returns-in-Failing-clause-moves : goal.returns-in-Failing-clause-moves
-returns-in-Failing-clause-moves g c =
-    let m = c.args.machine.now in
-    let w = g.B.Base.view c.retry.new.base in
-    makes_none_ok c.retry.result (g.B.Base.view c.args.base.now) w
-    (λ (o : Option RunEnd) (made : List Entry). (j : Journal) → Begins w j
-    → Does g.B.Base.rest g.B.Base.may_visit g.B.Base.looked_at g.B.Base.ahead w.causes made (move (setting c.args.host.now m j)) (setting c.args.host.now m j) m c.retry.new.machine o)
-    c.retry.ensures.seen c.retry.ensures.moves
-
 pub returns-in-Raising-clause-moves : goal.returns-in-Raising-clause-moves
 returns-in-Raising-clause-moves g c =
     let m = c.args.machine.now in

@@ -42,11 +42,14 @@ returns-in-Cut-clause-moves g c = makes_none _ _ _ c.cut_stack.ensures.seen (λ 
     is tt j c.cut_stack.new.machine c.if-machine-host.false (c.cut_stack.ensures.goes j b))
 
 pub returns-in_ok-call-in-User-clause-moves : goal.returns-in_ok-call-in-User-clause-moves
-returns-in_ok-call-in-User-clause-moves g c = makes_none _ _ _ c.call.ensures.seen (λ j b.
+returns-in_ok-call-in-User-clause-moves g c =
     let m = c.args.machine.now in
     let is = c.requires.control.is ∙ ap (λ (d : Control). Some (control_in (built m.terms) d)) c.in-User.is in
+    makes_as _ _ _ _
+    (λ made h j b.
     performed g.B.Base.rest g.B.Base.may_visit g.B.Base.looked_at g.B.Base.ahead _ (setting c.args.host.now m j) m (built m.terms c.args.goal) c.args.cut (spec.User c.in-User.indicator)
-    is tt j c.call.new.machine c.if-machine-host.false (c.in_ok-call-in-User.ensures.goes j b))
+    is tt j c.call.new.machine c.if-machine-host.false (h j b))
+    c.in_ok-call-in-User.ensures.goes
 
 pub returns-in_ok-access-in-Database-clause-moves : goal.returns-in_ok-access-in-Database-clause-moves
 returns-in_ok-access-in-Database-clause-moves g c =

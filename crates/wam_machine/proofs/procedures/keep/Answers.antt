@@ -6,7 +6,7 @@ use Rattle.wam_machine.specs.View.{AreKept}
 use Rattle.wam_machine.specs.declared.terms.Alternative.TheVariants as is
 use Rattle.wam_machine.proofs.Begins.{begins_before, looks_refl}
 use Rattle.wam_machine.proofs.Kept.{last_out, last_serves, kept_without}
-use Rattle.wam_machine.proofs.Tried.{calls-left}
+use Rattle.wam_machine.proofs.Tried.{call_kept, calls-left, stack-left}
 use Rattle.wam_machine.proofs.procedures.keep.Goals as goal
 
 pub more-requires-clause-out : goal.more-requires-clause-out
@@ -30,6 +30,9 @@ give_up-requires-else-more-clause-serves g c = (
 pub give_up-requires-else-more-clause-out : goal.give_up-requires-else-more-clause-out
 give_up-requires-else-more-clause-out g c = last_out g.B.Base.group (g.B.Base.serves c.args.base.now) _ _ (call_now c.args.machine.now.terms c.args.call) c.requires.kept
 
+pub save-requires-clause-turn : goal.save-requires-clause-turn
+save-requires-clause-turn g c = call_kept c.args.machine.now.terms c.make_place.new.terms c.in-Ok.ensures.cells c.args.call c.requires.cells
+
 pub returns-in-Ok-clause-seen : goal.returns-in-Ok-clause-seen
 returns-in-Ok-clause-seen g c = looks_refl _ c.front-front.ensures.sound
 
@@ -37,12 +40,18 @@ pub returns-in-Ok-clause-kept : goal.returns-in-Ok-clause-kept
 returns-in-Ok-clause-kept g c =
     let t = c.args.machine.now.terms in
     subst (AreKept (g.B.Base.serves c.args.base.now) g.B.Base.group (g.B.Base.out c.args.base.now))
-    (sym (calls-left t c.make_place.new.terms c.args.call c.in-Ok.ensures.said (c.in-Ok.ensures.cells c.args.call.goal c.requires.goal).1 c.save.new.terms c.save.ensures.said))
+    (sym (calls-left t c.make_place.new.terms c.args.call c.in-Ok.ensures.said c.in-Ok.ensures.cells c.requires.cells c.save.new.terms c.save.ensures.said))
     c.requires.kept
+
+pub returns-in-Ok-clause-cells : goal.returns-in-Ok-clause-cells
+returns-in-Ok-clause-cells g c = λ k h.
+    let first = c.in-Ok.ensures.cells k h in
+    let last = c.save.ensures.cells k first.0 in
+    (last.0, last.1 ∙ first.1)
 
 pub returns-in-Ok-clause-pushed : goal.returns-in-Ok-clause-pushed
 returns-in-Ok-clause-pushed g c =
-    inr (calls-left c.args.machine.now.terms c.make_place.new.terms c.args.call c.in-Ok.ensures.said (c.in-Ok.ensures.cells c.args.call.goal c.requires.goal).1 c.save.new.terms c.save.ensures.said)
+    inr (calls-left c.args.machine.now.terms c.make_place.new.terms c.args.call c.in-Ok.ensures.said c.in-Ok.ensures.cells c.requires.cells c.save.new.terms c.save.ensures.said)
 
 pub returns-in-Err-clause-kept : goal.returns-in-Err-clause-kept
 returns-in-Err-clause-kept g c =

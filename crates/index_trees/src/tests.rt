@@ -122,6 +122,19 @@ fn the_header_is_written(rt: HostRuntime) -> Result<(), Want> {
 }
 
 #[test]
+fn the_words_of_a_node_are_written(rt: HostRuntime) -> Result<(), Want> {
+    let rows = rows_of(rt.alloc(), &[(Some(7), None), (Some(4), None)])?;
+    let words = build(rt.alloc(), &rows, pattern(&[0]), &MARK)?;
+    // how many words, the root, the empty leaf; two leaves of one name; the node: two codes, the default child, code and child
+    assert!(rt;
+        words
+            .as_slice()
+            .ends_with(&[19, 13, 0, 1, 2, 1, 1, 2, 8, 4, 9, 7, 11])
+    );
+    Ok(())
+}
+
+#[test]
 fn a_code_leads_to_its_rows_and_those_without(rt: HostRuntime) -> Result<(), Want> {
     let rows = rows_of(
         rt.alloc(),

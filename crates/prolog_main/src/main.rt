@@ -14,16 +14,6 @@ use std::io::ErrorKind;
 use std::process::ExitCode;
 
 #[cfg(test)]
-mod builtin_tests;
-#[cfg(test)]
-mod clause_tests;
-#[cfg(test)]
-mod control_tests;
-#[cfg(test)]
-mod database_tests;
-#[cfg(test)]
-mod erasure_tests;
-#[cfg(test)]
 mod stream_tests;
 #[cfg(test)]
 mod tests;

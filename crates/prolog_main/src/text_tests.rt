@@ -1,4 +1,4 @@
-// Worked rows of the text of runs.
+// The text of runs that no table of rows can show: several goals, runs that end for want of memory, and deep values.
 
 use journal_base::Tally;
 use prolog_session::output;

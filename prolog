@@ -1,20 +1,32 @@
 #!/usr/bin/env bash
-# Runs the proved program, with these words, this input, and its output and status. The first use builds it, and so does the first
-# one after a change of the sources.
+# Runs the program with these words and this input, and gives its output and its status: the proved program where ./prove has built it
+# from these sources, and else the same sources compiled without their proofs, which is said on standard error.
 set -u
 root=$(cd "$(dirname "${BASH_SOURCE[0]}")" && pwd)
 crate="$root/crates/prolog_main"
 program="$crate/out/prolog_main"
-is_built() {
-  [ -x "$program" ] && [ -z "$(find "$root"/crates/*/src "$root"/crates/*/specs "$root"/crates/*/proofs -type f -newer "$program" -print -quit 2>/dev/null)" ]
-}
-if ! is_built; then
-  echo "prolog: proving and building the program; this takes some minutes." >&2
-  mkdir -p "$crate/out"
-  if ! (cd "$crate" && rt run </dev/null >"$crate/out/build.log" 2>&1) || [ ! -x "$program" ]; then
-    echo "prolog: the build failed; see $crate/out/build.log" >&2
-    exit 125
-  fi
-  touch "$program"
+
+if "$root/prove" --is-done; then
+  exec "$program" "$@"
 fi
-exec "$program" "$@"
+if ! command -v rt >/dev/null; then
+  echo "prolog: the program isn't built here, and the toolchain's command rt isn't there to build it." >&2
+  exit 125
+fi
+echo "prolog: this run is not proved here; ./prove proves and builds the program, in some 25 minutes of four processors." >&2
+scratch=$(mktemp -d)
+trap 'rm -rf "$scratch"' EXIT
+if [ -t 0 ]; then
+  echo "prolog: reading the text from the terminal; end it with control-D." >&2
+fi
+cat >"$scratch/text"
+(cd "$crate" && rt try --seconds 600 -- "$@" <"$scratch/text" 2>"$scratch/told")
+status=$?
+# What the toolchain tells of the run stands on standard error, behind what the program wrote there.
+if ! grep -q '^run=ended ' "$scratch/told"; then
+  cat "$scratch/told" >&2
+  echo "prolog: the unproved run gave no answer (its output is at most 1 MiB, its time at most ten minutes); ./prove, then run it again." >&2
+  exit 125
+fi
+grep -vE '^(interpreter: |checked: |races: |run=)' "$scratch/told" >&2
+exit "$status"

@@ -13,7 +13,7 @@ if ! command -v rt >/dev/null; then
   echo "prolog: the program isn't built here, and the toolchain's command rt isn't there to build it." >&2
   exit 125
 fi
-echo "prolog: this run is not proved here; ./prove proves and builds the program, in some 25 minutes of four processors." >&2
+echo "prolog: this run is not proved here; ./prove proves and builds the program, in 82 processor minutes (measured once)." >&2
 scratch=$(mktemp -d)
 trap 'rm -rf "$scratch"' EXIT
 if [ -t 0 ]; then

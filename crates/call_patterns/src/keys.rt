@@ -48,7 +48,8 @@ fn key_at(nodes: &[Node], position: usize, names: &mut Names) -> Result<Option<K
     }
 }
 
-/// The keys of the term that these nodes are. Their names get numbers; numbers once given stay.
+/// The keys of the term that these nodes are. Their names get numbers behind those of `names`, which begin as before; so
+/// they do where memory is wanted, when some of the term's names may have got theirs.
 pub fn keys_of(nodes: &[Node], names: &mut Names) -> Result<Keys, Want>
     requires { IsTrue (are_trees 1 nodes.now) }
     ensures numbered { IfOk result (λ k. AreKeysOf names.new k.at) }

@@ -12,8 +12,6 @@ mod keys;
 mod law;
 mod pattern;
 mod row;
-#[cfg(test)]
-mod tests;
 mod walk;
 
 pub use coding::code;

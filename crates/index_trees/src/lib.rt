@@ -29,8 +29,6 @@ mod making;
 mod parts;
 mod reading;
 mod sizing;
-#[cfg(test)]
-mod tests;
 
 pub use image::{Bucket, Mark};
 pub use law::{built_images_are_lawful, lawful_images_name_one_procedure, probes_find_the_rows};

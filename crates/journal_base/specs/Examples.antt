@@ -41,6 +41,17 @@ one_fact = fact (compound (codes "k") (more (integer (pos 1)) none))
 abbrev pub adds : What
 adds = Add Back 0 one_fact
 
+-- j(1), and k(1,1)
+abbrev pub other_fact : Clause
+other_fact = fact (compound (codes "j") (more (integer (pos 1)) none))
+
+abbrev pub wide_fact : Clause
+wide_fact = fact (compound (codes "k") (more (integer (pos 1)) (more (integer (pos 1)) none)))
+
+-- the load declares k/1, adds k(1) and erases it
+abbrev pub static_erased_by_load : Journal
+static_erased_by_load = by 0 static ∷ by 0 adds ∷ by 0 (Erase 1) ∷ []
+
 -- engine 1 declares k/1 and adds k(1), and engine 2 erases it
 abbrev pub erased : Journal
 erased = by 1 dynamic ∷ by 1 adds ∷ by 2 (Erase 1) ∷ []
@@ -57,4 +68,14 @@ pub record HasJournals : Type 0 where
   pub added_first : Legal 1000 100 (by 1 adds ∷ by 1 dynamic ∷ []) → ⊥
   -- a static one is the load's alone
   pub static_added : Legal 1000 100 (by 0 static ∷ by 1 adds ∷ []) → ⊥
+  pub static_declared : Legal 1000 100 (by 1 static ∷ []) → ⊥
+  pub static_legal : Legal 30 3 static_erased_by_load
+  -- a clause stands in the procedure of its head's name and arity
+  pub other_name : Legal 1000 100 (by 1 dynamic ∷ by 1 (Add Back 0 other_fact) ∷ []) → ⊥
+  pub other_arity : Legal 1000 100 (by 1 dynamic ∷ by 1 (Add Back 0 wide_fact) ∷ []) → ⊥
+  pub other_procedure : Legal 1000 100 (by 1 dynamic ∷ by 1 (Add Back 1 one_fact) ∷ []) → ⊥
+  -- what is erased was added before
+  pub erased_nothing : Legal 1000 100 (by 1 dynamic ∷ by 1 (Erase 7) ∷ []) → ⊥
+  pub erased_declaration : Legal 1000 100 (by 1 dynamic ∷ by 1 (Erase 0) ∷ []) → ⊥
+  pub erased_first : Legal 1000 100 (by 1 dynamic ∷ by 1 (Erase 2) ∷ by 1 adds ∷ []) → ⊥
   pub static_erased : Legal 1000 100 (by 0 static ∷ by 0 adds ∷ by 1 (Erase 1) ∷ []) → ⊥

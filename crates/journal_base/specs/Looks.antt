@@ -24,7 +24,7 @@ cause_number (Built mark) = 8
 -- The causes that a look tells are among those that may come. Where `Plain` alone may come there are no indexes, and `Built` is
 -- told of an index that is used.
 abbrev pub TellsOnly : List ℕ → How → Type 0
-TellsOnly causes (Indexed mark covered age late kept) = (causes ≢ 0 ∷ []) × IfSome kept (λ c. Contains causes (cause_number c))
+TellsOnly causes (Indexed by) = (causes ≢ 0 ∷ []) × IfSome by.kept (λ c. Contains causes (cause_number c))
 TellsOnly causes (Scanned c) = (cause_number c ≢ 8) × Contains causes (cause_number c)
 
 -- ---- what is fair
@@ -36,14 +36,14 @@ IsFairScan before p J other = Unit {0}
 
 -- what a look says of itself is so in the journal that it has seen
 abbrev pub IsFair : ℕ → Goal → How → Journal → Type 0
-IsFair before g (Indexed mark covered age late kept) J = mark ≤ length J
+IsFair before g (Indexed by) J = by.mark ≤ length J
 IsFair before g (Scanned c) J = IsFairScan before g.procedure J c
 
 -- ---- the allowance
 
 -- how many clauses a look and all that follows from its cursor may visit: of a scan, those ever added to the procedure
 abbrev pub allowance : Journal → Goal → How → ℕ
-allowance J g (Indexed mark covered age late kept) = length (chain J g.procedure)
+allowance J g (Indexed by) = length (chain J g.procedure)
 allowance J g (Scanned c) = length (chain J g.procedure)
 
 -- the most by which a look and all that follows from its cursor raise any count
@@ -53,7 +53,7 @@ most_raised = 0x200_0000
 -- ---- counts
 
 abbrev pub scans_of : How → ℕ
-scans_of (Indexed mark covered age late kept) = 0
+scans_of (Indexed by) = 0
 scans_of (Scanned c) = 1
 
 abbrev pub count_some : Option Cause → ℕ
@@ -61,7 +61,7 @@ count_some None = 0
 count_some (Some c) = 1
 
 abbrev pub kept_of : How → ℕ
-kept_of (Indexed mark covered age late kept) = count_some kept
+kept_of (Indexed by) = count_some by.kept
 kept_of (Scanned c) = 0
 
 abbrev pub want_of : Cause → ℕ
@@ -73,7 +73,7 @@ want_kept None = 0
 want_kept (Some c) = want_of c
 
 abbrev pub wants_of : How → ℕ
-wants_of (Indexed mark covered age late kept) = want_kept kept
+wants_of (Indexed by) = want_kept by.kept
 wants_of (Scanned c) = want_of c
 
 -- a look is counted, as a scan where it scans, and so on

@@ -23,18 +23,26 @@ pub enum Cause {
     Built(u64),
 }
 
+/// The index by which a look found its clauses.
+#[derive(Clone, Copy, Debug, PartialEq, Eq)]
+pub struct ByIndex {
+    /// The journal's length at which it was made.
+    pub mark: u64,
+    /// How many clauses it covers.
+    pub covered: u64,
+    /// How many updates the procedure has had since.
+    pub age: u64,
+    /// How many clauses that were added in front the look passed over.
+    pub late: u64,
+    /// Why it is used although it is outgrown.
+    pub kept: Option<Cause>,
+}
+
 /// How a look found its clauses.
 #[derive(Clone, Copy, Debug, PartialEq, Eq)]
 pub enum How {
-    /// By an index: the journal's length at which it was made, the clauses that it covers, the procedure's updates since,
-    /// the clauses added in front that the look passed over, and why it is used although it is outgrown.
-    Indexed {
-        mark: u64,
-        covered: u64,
-        age: u64,
-        late: u64,
-        kept: Option<Cause>,
-    },
+    /// By an index.
+    Indexed(ByIndex),
     /// By a scan of the procedure's clauses.
     Scanned(Cause),
 }

@@ -1,11 +1,12 @@
 // A base that keeps one list of entries and scans it whole.
-ghost use Rattle.std.specs.Prelude.{◌≡◌, ◌≢◌, ◌≤◌, ◌<◌, ◌+◌, ◌⊎◌, [], true, false, IfOk, OnOk, OnErr, IsOk, IsSome, Some, length};
+ghost use Rattle.std.specs.Prelude.{ℕ, ◌≡◌, ◌≢◌, ◌≤◌, ◌<◌, ◌+◌, ◌⊎◌, [], true, false, IfOk, OnOk, OnErr, IsOk, IsSome, Some, length};
 ghost use Rattle.std.specs.HashMap.{get, Updates, spare};
 ghost use Rattle.prolog_terms.specs.declared.entry.Indicator.{Indicator as AnIndicator};
 ghost use Rattle.prolog_terms.specs.declared.entry.What.TheVariants.{Add};
 ghost use Rattle.journals.specs.Journal.{clause_named, same_indicator};
 ghost use Rattle.journal_base.specs.Legal.{MayChange, MayChangeClause, MayAdd};
-ghost use Rattle.journal_base.specs.Space.{clause_words};
+ghost use Rattle.prolog_terms.specs.declared.entry.End.{End as AnEnd};
+ghost use Rattle.journal_base.specs.Space.{need};
 ghost use Rattle.journal_base.specs.View.{AreSizes, InSeen, Looks};
 
 use crate::ledger::Ledger;
@@ -343,7 +344,7 @@ fn enter(found: &mut HashMap<Indicator, (u32, Kind)>, key: Indicator, procedure:
 
 /// The words that a clause's addition needs. Where they don't fit 64 bits, memory is wanted.
 fn wanted_words(clause: &Clause) -> Result<u64, Want>
-    ensures { IfOk result (λ n. n ≡ 4 + clause_words clause.now) }
+    ensures { IfOk result (λ n. (e : AnEnd) (p : ℕ) → n ≡ need (Add e p clause.now)) }
 {
     match addition_words(clause) {
         Some(words) => Ok(words),

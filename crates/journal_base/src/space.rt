@@ -1,11 +1,14 @@
 // How many words an update needs.
-ghost use Rattle.std.specs.Prelude.{◌≡◌, ◌+◌, ◌<◌, ◌≤◌, length, filter, is_some, IfSome, IsTrue, slice_get};
+ghost use Rattle.std.specs.Prelude.{ℕ, ◌≡◌, ◌+◌, ◌<◌, ◌≤◌, length, filter, is_some, IfSome, IsTrue, slice_get};
 ghost use Rattle.std.specs.List.{sum_by};
 ghost use Rattle.std.specs.Option.{option_copied};
 ghost use Rattle.prolog_terms.specs.Flat.{are_trees, tree};
 ghost use Rattle.call_patterns.specs.Keys.{keys};
 ghost use Rattle.call_patterns.specs.NodeKey.{place_key};
-ghost use Rattle.journal_base.specs.Space.{text_words as words_of_text, node_words as words_of_node, clause_words as words_of_clause};
+ghost use Rattle.prolog_terms.specs.declared.entry.End.{End as AnEnd};
+ghost use Rattle.prolog_terms.specs.declared.entry.Kind.{Kind as AKind};
+ghost use Rattle.prolog_terms.specs.declared.entry.What.TheVariants.{Add, Declare};
+ghost use Rattle.journal_base.specs.Space.{text_words as words_of_text, node_words as words_of_node, need};
 
 use crate::head::POSITIONS;
 use call_patterns::position_at;
@@ -66,16 +69,17 @@ fn count_keys(nodes: &[Node]) -> u64
     count
 }
 
-/// The words that a procedure's declaration needs.
-pub(crate) fn declaration_words(indicator: &Indicator) -> u64
-    ensures { result ≡ 16 + words_of_text (length indicator.now.name) }
+/// The words that a procedure's declaration needs, of either kind. It takes no memory.
+#[tactic(auto, unfolding(crate::specs::Space::need))]
+pub fn declaration_words(indicator: &Indicator) -> u64
+    ensures { (k : AKind) → result ≡ need (Declare indicator.now k) }
 {
     16 + text_words(indicator.name.bytes())
 }
 
-/// The words that a clause's addition needs, where they fit 64 bits.
-pub(crate) fn addition_words(clause: &Clause) -> Option<u64>
-    ensures { IfSome result (λ n. n ≡ 4 + words_of_clause clause.now) }
+/// The words that a clause's addition needs, at either end of whichever procedure, where they fit 64 bits. It takes no memory.
+pub fn addition_words(clause: &Clause) -> Option<u64>
+    ensures { IfSome result (λ n. (e : AnEnd) (p : ℕ) → n ≡ need (Add e p clause.now)) }
 {
     let head = all_words(clause.head.nodes())?;
     let body = all_words(clause.body.nodes())?;

@@ -9,8 +9,6 @@ mod faults;
 mod law;
 mod operate;
 mod operation;
-#[cfg(test)]
-mod tests;
 
 pub use evaluation::eval;
 pub use faults::EvalFault;

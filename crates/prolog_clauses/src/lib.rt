@@ -19,8 +19,6 @@ mod operators;
 mod slash;
 mod table;
 mod terms;
-#[cfg(test)]
-mod tests;
 
 pub use clause::{Formed, clause_of};
 pub use directive::{Directive, directive_of};

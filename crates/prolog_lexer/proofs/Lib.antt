@@ -9,4 +9,5 @@ pub mod Numbers
 pub mod Symbols
 pub mod Sound
 pub mod Complete
+pub mod Apart
 mod Examples

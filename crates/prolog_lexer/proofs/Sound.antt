@@ -73,7 +73,7 @@ word_piece kind b word rest e h k =
     ap (λ m. Lexeme (kind (take m (b ∷ (word ++ rest)))) m) (prefix_len-run is_word (b ∷ word) rest (e, h) k)
     ∙ ap (λ l. Lexeme (kind l) (length (b ∷ word))) (take-run (b ∷ word) rest)
 
-some_length : (base : ℕ) (digits : List ℕ) → AreDigits base digits → 0 < length digits
+pub some_length : (base : ℕ) (digits : List ℕ) → AreDigits base digits → 0 < length digits
 some_length base [] h = absurd h
 some_length base (d ∷ ds) h = omega arith
 

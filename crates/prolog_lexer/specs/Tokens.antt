@@ -156,3 +156,8 @@ abbrev pub ending : Stream → Ending
 ending ended = at_end
 ending (refused f) = at_fault f
 ending (token t rest) = ending rest
+
+-- the tokens stand in order and apart, none of them empty, from one place of the bytes to another
+abbrev pub AreApart : ℕ → ℕ → List Token → Type 0
+AreApart from end [] = from ≤ end
+AreApart from end (t ∷ ts) = (from ≤ t.from) × (t.from < t.to) × AreApart t.to end ts

@@ -10,8 +10,6 @@ mod law;
 mod lexer;
 mod piece;
 mod quote;
-#[cfg(test)]
-mod tests;
 mod token;
 
 pub use law::tokens_by_cases;

@@ -13,8 +13,6 @@ mod parser;
 mod reader;
 mod rule;
 mod stack;
-#[cfg(test)]
-mod tests;
 mod variables;
 
 pub use law::{faults_by_cases, program_by_parts, reads_by_cases};

@@ -89,7 +89,7 @@ impl Parser {
         &mut self,
         ops: &Ops,
         name: Name,
-        count: u32,
+        count: u8,
         around: u16,
         token: &Token,
     ) -> Result<Next, Want>
@@ -103,8 +103,7 @@ impl Parser {
             self.mode = Mode::Wants(999);
             Ok(Next::One)
         } else if is_punct(&token.kind, b')') {
-            let arity = count.checked_add(1).ok_or(Want)?;
-            self.terms.push(Node::Functor(name, arity))?;
+            self.terms.push(Node::Functor(name, u32::from(count) + 1))?;
             self.mode = Mode::Has(0, around);
             Ok(Next::One)
         } else {

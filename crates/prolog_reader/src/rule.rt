@@ -5,7 +5,7 @@ use prolog_terms::Name;
 #[derive(Clone, Debug, Drop)]
 pub(crate) enum Frame {
     /// A name, how many arguments stand before this one, and the greatest priority around.
-    Arguments(Name, u32, u16),
+    Arguments(Name, u8, u16),
     /// How many items of a list stand before this one, and the greatest priority around.
     Items(u64, u16),
     /// How many items of a list stand before its bar, and the greatest priority around.

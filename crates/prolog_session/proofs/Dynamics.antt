@@ -19,7 +19,7 @@ use Rattle.journal_base.specs.Plain.{Plain, plain_view, plain_out, IsContinued}
 use Rattle.journal_base.specs.declared.sizes.Sizes.{Sizes}
 use Rattle.journal_base.specs.declared.answers.Declared.TheVariants as declared
 use Rattle.wam_machine.specs.declared.run.Run.{Run}
-use Rattle.wam_machine.specs.Machine.{no_change}
+use Rattle.wam_machine.specs.Procedures.{no_change}
 use Rattle.wam_machine.specs.Reserved.{is_reserved}
 use Rattle.prolog_session.specs.Load.{by_load, has_room, Placed, with_dynamic, with_dynamics, first_fixed, is_fixed, is_static, dynamic, raised, run_unless, after_declaration, after_declaration_of}
 use Rattle.prolog_session.specs.Bases.{sizes_of, loaded_in, Holds, HasDynamics}

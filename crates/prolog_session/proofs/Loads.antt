@@ -18,7 +18,7 @@ use Rattle.prolog_lexer.specs.Streams.{Stream, tokens}
 use Rattle.prolog_reader.specs.Texts.{Answer, a_term, nothing, refusal, Sentence, sentences, read_of, tail, size}
 use Rattle.prolog_reader.proofs.Sentences.{sentences-unfold, later, sentences-after, shorter_after}
 use Rattle.wam_machine.specs.declared.run.Run.{Run}
-use Rattle.wam_machine.specs.Machine.{no_change}
+use Rattle.wam_machine.specs.Procedures.{no_change}
 use Rattle.wam_machine.specs.Reserved.{is_reserved}
 use Rattle.wam_machine.specs.Runs.{AreShown}
 use Rattle.prolog_session.specs.declared.refusal.Refusal.{Refusal}

@@ -1,10 +1,6 @@
 -- What a load needs of the parts of a text.
-use Rattle.std.proofs.Common.{◌≡◌, ℕ, List, sym, ◌∙◌, ap, arith, get_or}
+use Rattle.std.proofs.Common.{ℕ, get_or}
 use Rattle.prolog_terms.specs.Tree.{Tree}
-use Rattle.prolog_terms.specs.Flat.{nodes, IsPrefixOrder, tree-nodes, tree}
-use Rattle.prolog_terms.specs.Faults.{indicator_tree}
-use Rattle.prolog_terms.specs.declared.entry.Indicator.{Indicator}
-use Rattle.prolog_terms.specs.declared.node.Node.{Node}
 use Rattle.prolog_clauses.specs.Directives.{IsGoalOf, IsReady}
 use Rattle.prolog_clauses.specs.declared.directive.Directive.{Directive}
 use Rattle.prolog_clauses.specs.declared.directive.Directive.TheVariants.{Operators as ForOperators, Dynamic as ForProcedures, Nothing as ForNothing, Kept as ForTheEnd, Goal as ToRun}
@@ -22,11 +18,3 @@ ready-directive line r (ForProcedures d) h k = tt
 ready-directive line r ForNothing h k = tt
 ready-directive line r (ForTheEnd g) h k = goal-shown line r g h k
 ready-directive line r (ToRun g) h k = goal-shown line r g h k
-
--- ---- the term of an indicator
-
-pub indicator_prefix : (i : Indicator) (xs : List Node) → xs ≡ nodes (indicator_tree i) → IsPrefixOrder xs
-indicator_prefix i xs e = (indicator_tree i, ((omega arith, omega arith, (tt, (tt, tt))), sym e))
-
-pub indicator_is : (i : Indicator) (xs : List Node) (t : Tree) → xs ≡ nodes (indicator_tree i) → nodes t ≡ xs → t ≡ indicator_tree i
-indicator_is i xs t e made = sym (tree-nodes t) ∙ ap tree (made ∙ e) ∙ tree-nodes (indicator_tree i)

@@ -6,7 +6,7 @@ use Rattle.journals.specs.Journal.{Journal}
 use Rattle.journal_base.specs.View.{none_out}
 use Rattle.journal_base.specs.declared.sizes.Sizes.{Sizes}
 use Rattle.journal_base.specs.Plain.{Plain, plain_view, plain_out, IsContinued}
-use Rattle.wam_machine.specs.Machine.{Setting}
+use Rattle.wam_machine.specs.States.{Setting}
 use Rattle.wam_machine.specs.Runs.{IsRunOf, IsTranscribed}
 use Rattle.wam_machine.specs.declared.run.Goal.{Goal}
 use Rattle.wam_machine.specs.declared.run.Run.{Run}

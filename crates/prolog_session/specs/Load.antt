@@ -31,7 +31,8 @@ use Rattle.prolog_lexer.specs.Streams.{tokens}
 use Rattle.prolog_reader.specs.Texts.{Reading, Answer, a_term, nothing, refusal, Sentence, answer_of, sentences}
 use Rattle.wam_machine.specs.declared.run.Run.{Run}
 use Rattle.wam_machine.specs.declared.run.RunEnd.TheVariants.{Ball}
-use Rattle.wam_machine.specs.Machine.{no_change, no_room}
+use Rattle.wam_machine.specs.States.{no_room}
+use Rattle.wam_machine.specs.Procedures.{no_change}
 use Rattle.wam_machine.specs.Reserved.{is_reserved}
 use Rattle.wam_machine.specs.Runs.{AreShown}
 use Rattle.prolog_session.specs.Runs.{IsRunBy}

@@ -5,7 +5,7 @@ ghost use Rattle.prolog_terms.specs.Indicators.{indicator_of};
 ghost use Rattle.prolog_terms.specs.Operators.{initial_operators};
 ghost use Rattle.prolog_clauses.specs.Declarations.{error_of, table_after, HasPriority};
 ghost use Rattle.journal_base.specs.View.{AreSizes};
-ghost use Rattle.wam_machine.specs.Machine.{no_change};
+ghost use Rattle.wam_machine.specs.Procedures.{no_change};
 ghost use Rattle.wam_machine.specs.Runs.{AreShown};
 ghost use Rattle.prolog_session.specs.Words.{max_steps};
 ghost use Rattle.prolog_session.specs.Load as the_load;
@@ -16,7 +16,7 @@ ghost use Rattle.prolog_session.specs.Taking.{Takes};
 use crate::Runs;
 use crate::goal_run::run_goal;
 use crate::kept::{Kept, TextGoal};
-use crate::part::{Next, Part, indicator_term, next_part};
+use crate::part::{Next, Part, assertz, next_part};
 use crate::refusal::Refusal;
 use journal_base::{Added, Base, Declared, Gate, PlainBase, Sizes, Tally};
 use prolog_clauses::{Declaring, Dynamics, Indicators, declare};
@@ -26,7 +26,7 @@ use prolog_terms::{
 };
 use std::alloc::Global;
 use std::sync::Wait;
-use wam_machine::{Events, Fronts, Run, RunEnd, is_reserved};
+use wam_machine::{Events, Fronts, Run, RunEnd, is_reserved, no_change};
 
 /// The engine of the load.
 const LOADER: u32 = 0;
@@ -108,16 +108,6 @@ fn raised(alloc: Global, line: u64, fault: &Fault, at: &Indicator) -> Result<Run
         tally: Tally::new(),
         steps: 0,
         end: RunEnd::Ball(ball),
-    })
-}
-
-/// The call that adds a clause of the text.
-fn assertz(alloc: Global) -> Result<Indicator, Want>
-    ensures { IfOk result (λ i. i ≡ the_load.assertz) }
-{
-    Ok(Indicator {
-        name: Name::of(alloc, b"assertz")?,
-        arity: 1,
     })
 }
 
@@ -207,11 +197,9 @@ fn first_fixed<'a>(base: &mut PlainBase, indicators: &'a [Indicator]) -> Option<
 fn unchangeable(alloc: Global, line: u64, indicator: &Indicator) -> Result<Run, Want>
     ensures { IfOk result (λ run. run ≡ the_load.raised line (no_change indicator.now) the_load.dynamic) }
 {
-    let action = Name::of(alloc, b"modify")?;
-    let kind = Name::of(alloc, b"static_procedure")?;
-    let culprit = indicator_term(alloc, indicator)?;
+    let fault = no_change(alloc, indicator)?;
     let at = dynamic(alloc)?;
-    raised(alloc, line, &Fault::Permission(action, kind, culprit), &at)
+    raised(alloc, line, &fault, &at)
 }
 
 /// Declares procedures dynamic, unless one of them may not be; what has no room, and an error, have a run.

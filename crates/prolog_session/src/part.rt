@@ -1,12 +1,9 @@
 // The read-terms of a text, as a load takes them.
-ghost use Rattle.std.specs.Prelude.{◌≡◌, ◌++◌, ◌∷◌, [], codes, Some, IfOk, OnOk};
-ghost use Rattle.prolog_terms.specs.Flat.{nodes as nodes_of};
-ghost use Rattle.prolog_terms.specs.declared.node.Node.TheVariants.{Atom, Functor};
-ghost use Rattle.prolog_terms.specs.Faults.{indicator_tree};
+ghost use Rattle.std.specs.Prelude.{◌≡◌, Some, IfOk};
 ghost use Rattle.prolog_terms.specs.Indicators.{indicator_of};
 ghost use Rattle.prolog_lexer.specs.Streams.{ahead};
 ghost use Rattle.prolog_reader.specs.Texts.{Answer, Says, Numbers, HasItsVariables, read_of, read_reading, tail};
-ghost use Rattle.wam_machine.specs.Machine.{no_change};
+ghost use Rattle.wam_machine.specs.Procedures.{no_change};
 ghost use Rattle.prolog_session.specs.Load as load;
 ghost use Rattle.prolog_session.specs.Load.{IsReadyPart, IsReadyNext};
 
@@ -16,10 +13,10 @@ use prolog_clauses::{Declaring, Directive, Dynamics, Formed, clause_of, directiv
 use prolog_lexer::Lexer;
 use prolog_reader::{Read, ReadTerm, read_term};
 use prolog_terms::{
-    Clause, Fault, Indicator, Name, Node, Ops, ShownVariables, Term, Want, Whole, term_indicator,
+    Clause, Fault, Indicator, Name, Ops, ShownVariables, Term, Want, term_indicator,
 };
 use std::alloc::Global;
-use wam_machine::{Goal, is_reserved};
+use wam_machine::{Goal, is_reserved, no_change};
 
 /// What a read-term is to a load.
 #[derive(Debug, Drop)]
@@ -108,7 +105,7 @@ fn part_of_term(alloc: Global, line: u64, term: &Term) -> Result<Part, Want>
 {
     if let Some(indicator) = term_indicator(alloc, term)? {
         if is_grammar_rule(&indicator) {
-            return no_change(alloc, line, &indicator);
+            return not_changed(alloc, line, &indicator);
         }
     }
     match clause_of(alloc, term)? {
@@ -135,7 +132,7 @@ fn part_of_named(
     ensures { IfOk result (λ p. p ≡ load.part_of_clause line clause (Some indicator)) }
 {
     if is_reserved(&indicator) {
-        return no_change(alloc, line, &indicator);
+        return not_changed(alloc, line, &indicator);
     }
     Ok(Part::Clause(line, indicator, clause))
 }
@@ -148,54 +145,27 @@ fn is_grammar_rule(indicator: &Indicator) -> bool
 }
 
 /// The error that no text may change the procedure of this name and arity.
-fn no_change(alloc: Global, line: u64, indicator: &Indicator) -> Result<Part, Want>
+fn not_changed(alloc: Global, line: u64, indicator: &Indicator) -> Result<Part, Want>
     ensures { IfOk result (λ p. p ≡ load.not_added line (no_change indicator.now)) }
 {
-    let action = Name::of(alloc, b"modify")?;
-    let kind = Name::of(alloc, b"static_procedure")?;
-    let culprit = indicator_term(alloc, indicator)?;
-    not_added(alloc, line, Fault::Permission(action, kind, culprit))
+    let fault = no_change(alloc, indicator)?;
+    not_added(alloc, line, fault)
+}
+
+/// The call that adds a clause of the text.
+pub(crate) fn assertz(alloc: Global) -> Result<Indicator, Want>
+    ensures { IfOk result (λ i. i ≡ load.assertz) }
+{
+    Ok(Indicator {
+        name: Name::of(alloc, b"assertz")?,
+        arity: 1,
+    })
 }
 
 /// The error is that of `assertz/1`.
 fn not_added(alloc: Global, line: u64, fault: Fault) -> Result<Part, Want>
     ensures { IfOk result (λ p. p ≡ load.not_added line fault) }
 {
-    let assertz = Indicator {
-        name: Name::of(alloc, b"assertz")?,
-        arity: 1,
-    };
-    Ok(Part::Raises(line, fault, assertz))
-}
-
-fn put_slash(nodes: &mut Vec<Node>, alloc: Global) -> Result<(), Want>
-    ensures { OnOk result (nodes.new.items ≡ nodes.old.items ++ Functor (codes "/") 2 ∷ []) }
-{
-    nodes.push(Node::Functor(Name::of(alloc, b"/")?, 2))?;
-    Ok(())
-}
-
-fn put_name(nodes: &mut Vec<Node>, name: &Name) -> Result<(), Want>
-    ensures { OnOk result (nodes.new.items ≡ nodes.old.items ++ Atom name.now ∷ []) }
-{
-    nodes.push(Node::Atom(name.clone()?))?;
-    Ok(())
-}
-
-fn put_indicator(nodes: &mut Vec<Node>, alloc: Global, indicator: &Indicator) -> Result<(), Want>
-    ensures { OnOk result (nodes.new.items ≡ nodes.old.items ++ nodes_of (indicator_tree indicator.now)) }
-{
-    put_slash(nodes, alloc)?;
-    put_name(nodes, &indicator.name)?;
-    nodes.push(Node::Int(Whole::from(indicator.arity)))?;
-    Ok(())
-}
-
-/// The term of a name and arity.
-pub(crate) fn indicator_term(alloc: Global, indicator: &Indicator) -> Result<Term, Want>
-    ensures { IfOk result (λ t. t ≡ indicator_tree indicator.now) }
-{
-    let mut nodes = Vec::new(alloc);
-    put_indicator(&mut nodes, alloc, indicator)?;
-    Ok(Term::from_prefix(nodes))
+    let at = assertz(alloc)?;
+    Ok(Part::Raises(line, fault, at))
 }

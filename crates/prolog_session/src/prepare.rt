@@ -52,6 +52,7 @@ pub fn prepare<R: Wait, S: Source, G: Gate>(
         Text::Want => return Err(Want),
     };
     let load = load_text(rt, alloc, gate, command.steps, sizes, &text)?;
+    // For its clause `sound`.
     let _front = load.base.front();
     if let Some(refusal) = load.refused {
         return Ok(Prepared::Refused(load.base.into_entries(), load.runs, load.ops, refusal));

@@ -10,7 +10,7 @@ use crate::goal_run::run_goal;
 use crate::load::Load;
 use crate::runs::Runs;
 use crate::words::Command;
-use journal_base::{Base, Gate};
+use journal_base::{Base, Gate, PlainBase};
 use prolog_terms::{Entries, Ops, Want};
 use std::alloc::Global;
 use std::sync::Wait;
@@ -51,14 +51,7 @@ pub fn run_command<R: Wait, G: Gate>(
     let Command { steps, goal } = command;
     let goal = match goal {
         Some(goal) => goal,
-        None => {
-            let _front = base.front();
-            return Ok(Ran {
-                journal: base.into_entries(),
-                runs,
-                ops,
-            });
-        }
+        None => return Ok(not_run(base, runs, ops)),
     };
     let ran = run_goal(
         rt,
@@ -71,12 +64,29 @@ pub fn run_command<R: Wait, G: Gate>(
         &goal,
     )?;
     runs.push(ran.run)?;
+    // For its clause `sound`.
     let _front = ran.base.front();
     Ok(Ran {
         journal: ran.base.into_entries(),
         runs,
         ops: ran.ops,
     })
+}
+
+/// What a command without a goal comes to: what the load left.
+fn not_run(base: PlainBase, runs: Runs, ops: Ops) -> Ran
+    ensures legal { Legal base.words base.updates result.journal }
+    ensures journal { result.journal ≡ base.entries }
+    ensures runs { result.runs ≡ runs }
+    ensures ops { result.ops ≡ ops }
+{
+    // For its clause `sound`.
+    let _front = base.front();
+    Ran {
+        journal: base.into_entries(),
+        runs,
+        ops,
+    }
 }
 
 fn is_ball(run: &Run) -> bool

@@ -15,8 +15,6 @@ mod ops;
 mod order;
 mod shown;
 mod term;
-#[cfg(test)]
-mod tests;
 mod want;
 mod whole;
 

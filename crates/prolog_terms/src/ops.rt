@@ -1,7 +1,7 @@
 // The operator table.
 ghost use Rattle.std.specs.Prelude.{◌≡◌, ◌≤◌, [], IfOk, IfErr, OnOk, OnErr, None, map};
 ghost use Rattle.prolog_terms.specs.Operators as spec;
-ghost use Rattle.prolog_terms.specs.Operators.{initial_operators, refusal, Answers, declared, all_declared, ChangesAlone, IsTable};
+ghost use Rattle.prolog_terms.specs.Operators.{initial_operators, refusal, Answers, declared, all_declared, rows_declared, ChangesAlone, IsTable};
 
 use crate::{Name, Want};
 use indexmap::IndexMap;
@@ -80,6 +80,43 @@ impl From<Want> for OpFault {
         OpFault::Want
     }
 }
+
+/// Names that are operators of one priority and type.
+type Row = (u16, OpKind, &'static [&'static str]);
+
+/// The operators that a load begins with.
+const INITIAL: [Row; 14] = [
+    (1200, OpKind::Xfx, &[":-", "-->"]),
+    (1200, OpKind::Fx, &[":-", "?-"]),
+    (
+        1150,
+        OpKind::Fx,
+        &["dynamic", "discontiguous", "multifile", "initialization"],
+    ),
+    (1100, OpKind::Xfy, &[";"]),
+    (1050, OpKind::Xfy, &["->"]),
+    (1000, OpKind::Xfy, &[","]),
+    (900, OpKind::Fy, &["\\+"]),
+    (
+        700,
+        OpKind::Xfx,
+        &["=", "\\=", "==", "\\==", "@<", "@=<", "@>", "@>="],
+    ),
+    (
+        700,
+        OpKind::Xfx,
+        &["=..", "is", "=:=", "=\\=", "<", "=<", ">", ">="],
+    ),
+    (500, OpKind::Yfx, &["+", "-", "/\\", "\\/"]),
+    (
+        400,
+        OpKind::Yfx,
+        &["*", "/", "//", "rem", "mod", "<<", ">>"],
+    ),
+    (200, OpKind::Xfx, &["**"]),
+    (200, OpKind::Xfy, &["^"]),
+    (200, OpKind::Fy, &["-", "\\"]),
+];
 
 /// Names, and what each is as an operator.
 #[derive(Debug, Drop)]
@@ -214,41 +251,17 @@ impl Operators {
         ensures { IfOk result (λ o. o ≡ initial_operators) }
     {
         let mut ops = Operators::new(alloc);
-        ops.put(alloc, 1200, OpKind::Xfx, &[":-", "-->"])?;
-        ops.put(alloc, 1200, OpKind::Fx, &[":-", "?-"])?;
-        ops.put(
-            alloc,
-            1150,
-            OpKind::Fx,
-            &["dynamic", "discontiguous", "multifile", "initialization"],
-        )?;
-        ops.put(alloc, 1100, OpKind::Xfy, &[";"])?;
-        ops.put(alloc, 1050, OpKind::Xfy, &["->"])?;
-        ops.put(alloc, 1000, OpKind::Xfy, &[","])?;
-        ops.put(alloc, 900, OpKind::Fy, &["\\+"])?;
-        ops.put(
-            alloc,
-            700,
-            OpKind::Xfx,
-            &["=", "\\=", "==", "\\==", "@<", "@=<", "@>", "@>="],
-        )?;
-        ops.put(
-            alloc,
-            700,
-            OpKind::Xfx,
-            &["=..", "is", "=:=", "=\\=", "<", "=<", ">", ">="],
-        )?;
-        ops.put(alloc, 500, OpKind::Yfx, &["+", "-", "/\\", "\\/"])?;
-        ops.put(
-            alloc,
-            400,
-            OpKind::Yfx,
-            &["*", "/", "//", "rem", "mod", "<<", ">>"],
-        )?;
-        ops.put(alloc, 200, OpKind::Xfx, &["**"])?;
-        ops.put(alloc, 200, OpKind::Xfy, &["^"])?;
-        ops.put(alloc, 200, OpKind::Fy, &["-", "\\"])?;
+        ops.put_rows(alloc, &INITIAL)?;
         Ok(ops)
+    }
+
+    fn put_rows(&mut self, alloc: Global, rows: &[Row]) -> Result<(), Want>
+        ensures { OnOk result (self.new ≡ rows_declared (map (λ r. spec.row r.0 r.1 (map (λ n. n.now) r.2.now)) rows.now) self.old) }
+    {
+        for row in rows {
+            self.put(alloc, row.0, row.1, row.2)?;
+        }
+        Ok(())
     }
 
     fn copy(&self) -> Result<Operators, Want>

@@ -12,8 +12,6 @@ mod reading_again;
 mod shape;
 mod spelling;
 mod style;
-#[cfg(test)]
-mod tests;
 mod writing;
 
 pub use law::rows;

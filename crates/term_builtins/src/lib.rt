@@ -16,12 +16,8 @@ mod orders;
 mod output;
 mod run;
 mod table;
-#[cfg(test)]
-mod test_rows;
-#[cfg(test)]
-mod tests;
 mod univ;
 
 pub use find::{find_builtin, table_is_in_order};
 pub use run::{Did, run_builtin};
-pub use table::{BUILTINS, Builtin, Kind, Relation, What};
+pub use table::{BUILTINS, Builtin, Kind, Relation, What, builtin_rows};

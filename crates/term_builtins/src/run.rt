@@ -1,10 +1,12 @@
 // A call of a builtin.
 ghost use Rattle.std.specs.Prelude.{◌<◌, All, length, IfOk, ◌≡◌};
 ghost use Rattle.term_store.specs.Terms.{term_of, trees_of, HasTerm, AreNamed};
+ghost use Rattle.term_store.specs.Later.{IsTakenBack};
 ghost use Rattle.term_store.specs.Heads.{IsFurther};
 ghost use Rattle.term_builtins.specs.Meanings.{meaning};
 ghost use Rattle.term_builtins.specs.Table.{builtins, indicator};
 ghost use Rattle.term_builtins.specs.Answers.{IsDone, row_at};
+ghost use Rattle.term_builtins.specs.declared.run.Did.TheVariants as did;
 ghost use Rattle.prolog_terms.specs.Faults.{fault_tree};
 
 use crate::answer::{Answer, come_to};
@@ -27,7 +29,8 @@ pub enum Did {
     Put(Bytes),
     /// It raises this ball, an error at its own name and arity, and nothing is bound.
     Ball(Term),
-    /// An allocation was refused. Variables may be bound, and are undone by going back to a mark.
+    /// An allocation was refused. Variables may be bound and compounds made, which going back to an earlier mark takes
+    /// away.
     Want,
 }
 
@@ -44,6 +47,7 @@ pub fn run_builtin(
     requires valid { All (HasTerm (length names.old) store.old) args.now }
     ensures further { IsFurther store.old names.old store.new names.new }
     ensures done { IsDone names.new store.old store.new (indicator (row_at builtins row)) (meaning (row_at builtins row).what store.old.variables (trees_of (term_of names.new store.old) args.now)) result }
+    ensures want { result ≡ did.Want → IsTakenBack store.old store.new }
 {
     match try_run(alloc, store, names, row, args) {
         Ok(did) => did,

@@ -272,6 +272,13 @@ pub const BUILTINS: [Builtin; 38] = [
     },
 ];
 
+/// The rows of `BUILTINS`: they are those of the table in `specs/Table.antt`, one by one and in their order.
+pub fn builtin_rows() -> &'static [Builtin]
+    ensures { map told result.now ≡ builtins }
+{
+    BUILTINS.as_slice()
+}
+
 /// The row at a place of `BUILTINS`.
 pub(crate) fn row_of(place: usize) -> Builtin
     requires { place < length builtins }
@@ -279,7 +286,7 @@ pub(crate) fn row_of(place: usize) -> Builtin
     ensures arity { result.arity ≡ (row_at builtins place).arity }
     ensures what { result.what ≡ (row_at builtins place).what }
 {
-    row_in(BUILTINS.as_slice(), place)
+    row_in(builtin_rows(), place)
 }
 
 /// The row at a place of rows that are those of the table.

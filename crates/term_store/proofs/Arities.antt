@@ -41,7 +41,7 @@ count-substituted s none = refl
 count-substituted s (more t ts) = ap (λ (n : ℕ). n + 1) (count-substituted s ts)
 
 mutual
-  substituted-arities : (s : ℕ → Tree) → ((v : ℕ) → HasArities (s v)) → (t : Tree) → HasArities t → HasArities (substituted s t)
+  pub substituted-arities : (s : ℕ → Tree) → ((v : ℕ) → HasArities (s v)) → (t : Tree) → HasArities t → HasArities (substituted s t)
   substituted-arities s h (variable v) a = h v
   substituted-arities s h (integer z) a = tt
   substituted-arities s h (atom x) a = tt

@@ -22,7 +22,7 @@ count-past zero ts = omega arith
 count-past (suc n) none = omega arith
 count-past (suc n) (more t ts) = let h = count-past n ts in omega (arith, h)
 
-some-tree : (n : Node) (ns : List Node) → 1 ≤ count (forest (n ∷ ns))
+pub some-tree : (n : Node) (ns : List Node) → 1 ≤ count (forest (n ∷ ns))
 some-tree (Var n) ns = omega arith
 some-tree (Int z) ns = omega arith
 some-tree (Atom a) ns = omega arith

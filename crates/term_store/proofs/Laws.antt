@@ -1,5 +1,6 @@
 -- Laws of a store, over what it shows, for the crates above.
 use Rattle.std.proofs.Common.{◌≡◌, ℕ, suc, ◌-◌, ◌<◌, ◌≤◌, List, [], ◌∷◌, ◌++◌, length, take, drop, All, refl, sym, ap, ap₂, ◌∙◌, arith, subst, append_assoc, append-nil, length-append, nat_eq, Bool, true, false, None, ◌≢◌}
+use Rattle.std.specs.Prelude.{OnErr, Result, Ok, Err}
 use Rattle.std.proofs.lemmas.Bool.Decides.{nat_tests}
 use Rattle.std.proofs.Math.Seq.{get_or-append_seam}
 use Rattle.std.proofs.lemmas.List.{get_or_append_left, take-append-le}
@@ -10,7 +11,7 @@ use Rattle.term_store.specs.declared.cell.Cell.TheVariants.{Variable, Integer, A
 use Rattle.term_store.specs.declared.cell.Trailed.{Trailed}
 use Rattle.term_store.specs.Shape.{Shape}
 use Rattle.term_store.specs.Terms.{text, trees_of, row_at, raw, raw_by, bindings_by, bindings_of, resolved, meaning, term_of, lookup, IsCell, IsNamed, HasTerm, AreNamed, IsShape, IsUnified}
-use Rattle.term_store.specs.Later.{IsLater, AreLonger, mark_of, back, CanGoBack}
+use Rattle.term_store.specs.Later.{IsLater, IsTakenBack, AreLonger, mark_of, back, CanGoBack}
 use Rattle.term_store.proofs.Trees.{substituted-substituted, substituted-same}
 use Rattle.term_store.proofs.Bindings.{resolved_unbound}
 use Rattle.term_store.proofs.Rows.{within-more, all_within-more, row-left, raw-compound, trees_of-same, raw-later, raw-names, bindings-later, bindings-names}
@@ -229,6 +230,15 @@ later-variables s n le = record {
 pub back-at-mark : (s t : Shape) → IsShape s → IsLater s t → back (mark_of s) t ≡ record s { variables = t.variables }
 back-at-mark s t h later =
     back-later (mark_of s) s t later (can-mark s h) ∙ ap (λ (u : Shape). record u { variables = t.variables }) (back-mark s)
+
+-- what holds in any case holds at an error
+pub at-want : {A E : Type 0} (r : Result A E) (P : Type 0) → P → OnErr r P
+at-want (Ok a) P p = tt
+at-want (Err e) P p = p
+
+-- what was added is taken back by each mark
+pub taken-back : (s t : Shape) → IsLater s t → IsTakenBack s t
+taken-back s t later = λ m can. (can-go-back-later m s t later can, back-later m s t later can)
 
 -- an older mark stays good where a younger one was gone back to
 pub can-go-back-back : (m : Trailed) (s t : Shape) → IsShape s → IsLater s t → CanGoBack m s → CanGoBack m (back (mark_of s) t)

@@ -26,7 +26,7 @@ place-old v (n ∷ ns) ms h = go (v == n) h (place-old v ns ms)
     go true e f = refl
     go false e f = ap suc (f e)
 
-contains-append : (v : ℕ) (ns ms : List ℕ) → contains v (ns ++ ms) ≡ (contains v ns || contains v ms)
+pub contains-append : (v : ℕ) (ns ms : List ℕ) → contains v (ns ++ ms) ≡ (contains v ns || contains v ms)
 contains-append v [] ms = refl
 contains-append v (n ∷ ns) ms = go (v == n) (contains-append v ns ms)
   where
@@ -104,6 +104,11 @@ mutual
   pub front-all_after : (seen : List ℕ) (ts : Trees) → IsFront seen (all_variables_after seen ts)
   front-all_after seen none = front-itself seen
   front-all_after seen (more t ts) = front-further seen (variables_after seen t) _ (front-after seen t) (front-all_after (variables_after seen t) ts)
+
+-- what was met stays met
+pub stays-met : (seen all : List ℕ) → IsFront seen all → (v : ℕ) → contains v seen ≡ true → contains v all ≡ true
+stays-met seen all h v e =
+    ap (contains v) h.all_is ∙ contains-append v seen h.later ∙ ap (λ (b : Bool). b || contains v h.later) e
 
 -- a variable that is met has been met
 pub met-variable : (seen : List ℕ) (n : ℕ) → contains n (variables_after seen (variable n)) ≡ true

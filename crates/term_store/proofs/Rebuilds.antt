@@ -1,6 +1,6 @@
 -- New cells of a term's cells, from the last to the first, and the copy that they are.
 use Rattle.std.proofs.Common.{◌≡◌, ℕ, ℤ, zero, suc, ◌+◌, ◌-◌, ◌<◌, ◌≤◌, List, [], ◌∷◌, ◌++◌, length, reverse, drop, All, Bool, true, false, Option, Some, None, refl, sym, ap, ap₂, ◌∙◌, arith, subst, append-nil, length-append, slice_index_or}
-use Rattle.std.specs.Prelude.{◌||◌, ◌==◌, if◌then◌else◌, IfSome}
+use Rattle.std.specs.Prelude.{◌||◌, ◌==◌, if◌then◌else◌, IfSome, IsNone}
 use Rattle.std.specs.BTreeMap.{get, BTreeMap}
 use Rattle.std.specs.Ordering.{nat_cmp}
 use Rattle.std.proofs.lemmas.List.{reverse-append, length-reverse}
@@ -18,7 +18,7 @@ use Rattle.term_store.specs.Shape.{Shape}
 use Rattle.term_store.specs.Terms.{text, value, term_of, trees_of, row_at, raw_by, bindings_by, resolved, lookup, IsCell, IsNamed, IsShape}
 use Rattle.term_store.specs.Later.{IsLater, mark_of, back}
 use Rattle.term_store.specs.Work.{plain}
-use Rattle.term_store.specs.Copies.{IsCopy, node_at, nodes_at, IsUnfolding, arity_at, behind, placed_at, IsRebuilt, IsRebuilding, AreEnough, IsMade}
+use Rattle.term_store.specs.Copies.{IsCopy, node_at, nodes_at, IsUnfolding, arity_at, behind, placed_at, IsRebuilt, IsRebuilding, AreEnough, IsMade, IsMet}
 use Rattle.term_store.proofs.Trees.{substituted-substituted, substituted-same, same_first}
 use Rattle.term_store.proofs.Bindings.{resolved_unbound}
 use Rattle.term_store.proofs.Rows.{trees_of-same, row-left, raw-variable, raw-integer, raw-atom, raw-compound, raw-later}
@@ -28,7 +28,8 @@ use Rattle.term_store.proofs.Values.{free-unbound}
 use Rattle.term_store.proofs.Arities.{count-trees}
 use Rattle.term_store.proofs.Laws.{later-itself, later-further, later-variables, later-compound, cell-later, named-compound, are_named-variables, new-free, back-at-mark}
 use Rattle.term_store.proofs.Puts.{all-right, first-row, past-row, first-substituted, past-substituted, count-substituted}
-use Rattle.term_store.proofs.Orders.{front-all_after}
+use Rattle.term_store.proofs.Orders.{front-all_after, not-met}
+use Rattle.term_store.proofs.Fronts.{some-tree}
 
 -- ---- places
 
@@ -51,6 +52,10 @@ pub found-option : (order : List ℕ) (places : BTreeMap ℕ ℕ) (v : ℕ) (o :
     → IfSome o (λ n. n ≡ place_of v order) × IfSome o (λ n. n < length order)
 found-option order places v None h e = (tt, tt)
 found-option order places v (Some n) h e = found-place order places v n h (sym e)
+
+pub found-none : (order : List ℕ) (places : BTreeMap ℕ ℕ) (v : ℕ) (o : Option ℕ) → ArePlaced order places → o ≡ get nat_cmp places v → IsNone o → contains v order ≡ false
+found-none order places v None h e is = not-met order places v h (sym e)
+found-none order places v (Some n) h e is = cc
 
 -- ---- a cell on a stack
 
@@ -243,6 +248,22 @@ rebuilding-end r s t cells stack rest c at e going popped =
           let one : forest (nodes u) ≡ more u none = ap forest (sym (append-nil (nodes u))) ∙ forest-nodes u [] in
           same_first _ _ _ _ (sym (ap (trees_of (raw_by name t.compounds)) e') ∙ all.trees name ∙ ap (λ (ns : List Node). all_substituted r (forest ns)) (sym spelled) ∙ ap (all_substituted r) one);
     }
+
+-- the stack has a cell, where there was one
+pub rebuilding-some : (r : ℕ → Tree) (s t : Shape) (cells stack : List Cell) (at : ℕ) → at ≡ 0 → 1 ≤ length cells → IsRebuilding r s t (drop at cells) stack → 1 ≤ length stack
+rebuilding-some r s t cells stack at e some going =
+    let all : IsRebuilding r s t cells stack = subst (λ (n : ℕ). IsRebuilding r s t (drop n cells) stack) e going in
+    let a = sym (count-trees (raw_by plain t.compounds) (reverse stack)) ∙ ap count (all.trees plain) ∙ count-substituted r (forest (nodes_at plain s.compounds cells)) in
+    let b = length-reverse stack in
+    let few = some-forest cells some in omega (arith, a, b, few)
+  where
+    some-forest : (cs : List Cell) → 1 ≤ length cs → 1 ≤ count (forest (nodes_at plain s.compounds cs))
+    some-forest [] h = absurd (omega arith)
+    some-forest (c ∷ cs) h = some-tree (node_at plain s.compounds c) (nodes_at plain s.compounds cs)
+
+-- the next cell has been met
+pub rebuilding-met : (seen : List ℕ) (cells : List Cell) (at : ℕ) (c d : Cell) → All (IsMet seen) cells → 0 < at → at ≤ length cells → c ≡ slice_index_or cells (at - 1) d → IsMet seen c
+rebuilding-met seen cells at c d all some low e = subst (IsMet seen) (sym e) (all (at - 1) d (omega arith))
 
 -- ---- the copy
 

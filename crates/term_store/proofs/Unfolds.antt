@@ -1,9 +1,9 @@
 -- The cells of a term in prefix order.
-use Rattle.std.proofs.Common.{◌≡◌, ℕ, ℤ, ◌<◌, List, [], ◌∷◌, ◌++◌, length, reverse, All, refl, sym, ap, ap₂, ◌∙◌, arith, subst, append_assoc, append-nil}
+use Rattle.std.proofs.Common.{◌≡◌, ℕ, ℤ, ◌<◌, ◌≤◌, List, [], ◌∷◌, ◌++◌, length, reverse, All, true, refl, sym, ap, ap₂, ◌∙◌, arith, subst, append_assoc, append-nil}
 use Rattle.std.proofs.lemmas.List.{reverse-append}
 use Rattle.std.proofs.lemmas.List.Elements.{All-append, All-head, All-tail, All-nil, All-cons}
-use Rattle.prolog_terms.specs.Tree.{Tree, variable}
-use Rattle.prolog_terms.specs.Substitutions.{variables_after, all_variables_after, beyond}
+use Rattle.prolog_terms.specs.Tree.{Tree, variable, integer, atom, compound}
+use Rattle.prolog_terms.specs.Substitutions.{variables_after, all_variables_after, contains, beyond}
 use Rattle.prolog_terms.specs.Flat.{nodes, nodes_all}
 use Rattle.prolog_terms.specs.declared.node.Node.{Node}
 use Rattle.prolog_terms.specs.declared.node.Node.TheVariants.{Functor}
@@ -17,13 +17,14 @@ use Rattle.term_store.specs.Views.{Sees, Looks, tree_of}
 use Rattle.term_store.specs.Work.{size, size_all, plain}
 use Rattle.term_store.specs.Puts.{AreFit}
 use Rattle.term_store.specs.Compares.{args_of}
-use Rattle.term_store.specs.Copies.{node_at, nodes_at, IsUnfolded, IsUnfolding, AreEnough}
+use Rattle.term_store.specs.Copies.{node_at, nodes_at, IsUnfolded, IsUnfolding, IsMet, AreEnough}
 use Rattle.term_store.proofs.Arities.{count-trees, terms-arities}
 use Rattle.term_store.proofs.Seen.{looks-value, looks-args}
 use Rattle.term_store.proofs.Steps.{size-append}
 use Rattle.term_store.proofs.Puts.{fit-term}
 use Rattle.term_store.proofs.Readings.{after-append, no_cells}
 use Rattle.term_store.proofs.Compared.{looks-named, size-args}
+use Rattle.term_store.proofs.Orders.{IsFront, front-after, stays-met, met-variable}
 
 -- ---- one cell
 
@@ -47,8 +48,9 @@ spelled-view s c end (of_view.Compound f args) h l e name =
 module _ (s : Shape) (c end : Cell) (view : View) (h : IsShape s) (looks : Looks s c view) (sees : Sees s end view) (ended : IsCell s end)
     (end_named : (most : ℕ) → AreNamed most s → IsNamed most c → IsNamed most end) (todo : List Cell) where
   unfolded : (after : List Cell) (seen met : List ℕ) (written longer : List Cell) → reverse after ≡ args_of view ++ reverse todo → longer ≡ written ++ end ∷ []
-      → ((name : ℕ → List ℕ) → all_variables_after met (trees_of (value name s) (args_of view)) ≡ variables_after seen (tree_of name (value name s) view)) → IsUnfolded s c todo after seen met written longer
-  unfolded after seen met written longer pushed written_is found = record {
+      → ((name : ℕ → List ℕ) → all_variables_after met (trees_of (value name s) (args_of view)) ≡ variables_after seen (tree_of name (value name s) view))
+      → IsMet met end → ((v : ℕ) → contains v seen ≡ true → contains v met ≡ true) → IsUnfolded s c todo after seen met written longer
+  unfolded after seen met written longer pushed written_is found met_is stays = record {
     end = end;
     args = args_of view;
     todo_is = pushed;
@@ -56,6 +58,8 @@ module _ (s : Shape) (c end : Cell) (view : View) (h : IsShape s) (looks : Looks
     valid = (ended, looks-cells s c view h looks);
     named = λ most n has. (end_named most n has, (λ k d lt. ((looks-named s most c view h n has looks).1 k d lt).1));
     spelled = spelled-view s c end view h looks sees;
+    met_is = met_is;
+    stays = stays;
     found = λ name. found name ∙ sym (ap (variables_after seen) (looks-value s c view h looks name));
     smaller = let a = ap size (looks-value s c view h looks plain) in let b = size-args (value plain s) view in omega (arith, a, b);
   }
@@ -70,19 +74,24 @@ module _ (s : Shape) (c end : Cell) (view : View) (h : IsShape s) (looks : Looks
       → IsUnfolded s c todo todo seen met written longer
   unfolded-variable v seen met written longer e is written_is =
       unfolded todo seen met written longer (ap (λ (x : View). args_of x ++ reverse todo) (sym e)) written_is (found-in seen met (of_view.Variable v) e (λ name. is))
+      (subst (IsMet met) (sym (subst (Sees s end) e sees)) (subst (λ (ns : List ℕ). contains v ns ≡ true) (sym is) (met-variable seen v)))
+      (λ w k. stays-met seen met (subst (IsFront seen) (sym is) (front-after seen (variable v))) w k)
 
   pub unfolded-integer : (z : ℤ) (seen : List ℕ) (written longer : List Cell) → view ≡ of_view.Integer z → longer ≡ written ++ end ∷ [] → IsUnfolded s c todo todo seen seen written longer
   unfolded-integer z seen written longer e written_is =
       unfolded todo seen seen written longer (ap (λ (x : View). args_of x ++ reverse todo) (sym e)) written_is (found-in seen seen (of_view.Integer z) e (λ name. refl))
+      (subst (IsMet seen) (sym (subst (Sees s end) e sees)) tt) (λ w k. k)
 
   pub unfolded-atom : (n : ℕ) (seen : List ℕ) (written longer : List Cell) → view ≡ of_view.Atom n → longer ≡ written ++ end ∷ [] → IsUnfolded s c todo todo seen seen written longer
   unfolded-atom n seen written longer e written_is =
       unfolded todo seen seen written longer (ap (λ (x : View). args_of x ++ reverse todo) (sym e)) written_is (found-in seen seen (of_view.Atom n) e (λ name. refl))
+      (subst (IsMet seen) (sym (subst (Sees s end) e sees)) tt) (λ w k. k)
 
   pub unfolded-compound : (f : ℕ) (args : _) (after : List Cell) (seen : List ℕ) (written longer : List Cell) → view ≡ of_view.Compound f args → reverse after ≡ args.now ++ reverse todo
       → longer ≡ written ++ end ∷ [] → IsUnfolded s c todo after seen seen written longer
   unfolded-compound f args after seen written longer e pushed written_is =
       unfolded after seen seen written longer (pushed ∙ ap (λ (x : View). args_of x ++ reverse todo) (sym e)) written_is (found-in seen seen (of_view.Compound f args) e (λ name. refl))
+      (let at = subst (Sees s end) e sees in subst (IsMet seen) (sym at.1) tt) (λ w k. k)
 
 -- ---- the whole
 
@@ -98,6 +107,7 @@ pub unfolding-start : (s : Shape) (c : Cell) → IsCell s c → IsUnfolding s c 
 unfolding-start s c w = record {
   valid = All-cons (IsCell s) c [] w (All-nil (IsCell s));
   cells = All-nil (IsCell s);
+  met = All-nil (IsMet []);
   named = λ most n has. (All-cons (IsNamed most) c [] has (All-nil (IsNamed most)), All-nil (IsNamed most));
   spelled = λ name. sym (append-nil (nodes (value name s c)));
   found = λ name. refl;
@@ -110,9 +120,18 @@ module _ (s : Shape) (c : Cell) (old todo after written longer : List Cell) (see
   pub unfolding-cell : IsCell s d
   unfolding-cell = All-head (IsCell s) d (reverse todo) (subst (All (IsCell s)) turned going.valid)
 
+  -- what was met stays met
+  met-later : IsUnfolded s d todo after seen met written longer → (e : Cell) → IsMet seen e → IsMet met e
+  met-later u (of_cell.Variable v) h = u.stays v h
+  met-later u (of_cell.Integer z) h = tt
+  met-later u (of_cell.Atom n) h = tt
+  met-later u (of_cell.Compound i) h = tt
+
   pub unfolding-step : IsUnfolded s d todo after seen met written longer → IsUnfolding s c after longer met
   unfolding-step u = record {
     valid = subst (All (IsCell s)) (sym u.todo_is) (All-append (IsCell s) u.args (reverse todo) u.valid.1 (All-tail (IsCell s) d (reverse todo) (subst (All (IsCell s)) turned going.valid)));
+    met = subst (All (IsMet met)) (sym u.longer_is)
+        (All-append (IsMet met) written (u.end ∷ []) (λ k e lt. met-later u _ (going.met k e lt)) (All-cons (IsMet met) u.end [] u.met_is (All-nil (IsMet met))));
     cells = subst (All (IsCell s)) (sym u.longer_is) (All-append (IsCell s) written (u.end ∷ []) going.cells (All-cons (IsCell s) u.end [] u.valid.0 (All-nil (IsCell s))));
     named = λ most n has.
         let all = going.named most n has in
@@ -145,6 +164,17 @@ module _ (s : Shape) (c : Cell) (old todo after written longer : List Cell) (see
 
 pub unfolding-end : (s : Shape) (c : Cell) (todo written : List Cell) (seen : List ℕ) → length todo ≡ 0 → IsUnfolding s c todo written seen → IsUnfolding s c [] written seen
 unfolding-end s c todo written seen e going = subst (λ (cs : List Cell). IsUnfolding s c cs written seen) (no_cells todo e) going
+
+-- something is written
+no-nodes : (t : Tree) → nodes t ≡ [] → ⊥
+no-nodes (variable v) e = cc
+no-nodes (integer z) e = cc
+no-nodes (atom a) e = cc
+no-nodes (compound f ts) e = cc
+
+pub unfolding-some : (s : Shape) (c : Cell) (written : List Cell) (seen : List ℕ) → IsUnfolding s c [] written seen → 1 ≤ length written
+unfolding-some s c [] seen going = absurd (no-nodes (value plain s c) (going.spelled plain))
+unfolding-some s c (d ∷ ds) seen going = omega arith
 
 -- what is written has enough cells behind each compound
 enough-fit : (m : ℕ) (rows : List (ℕ × List Cell)) (cs : List Cell) → AreFit m 0 (nodes_at plain rows cs) → AreEnough rows cs

@@ -1,7 +1,7 @@
 -- A copy of a term with new variables: its cells in prefix order, and from the last to the first the new cells.
-use Rattle.std.specs.Prelude.{◌≡◌, ℕ, ◌+◌, ◌<◌, ◌≤◌, List, [], ◌∷◌, ◌++◌, length, reverse, All}
+use Rattle.std.specs.Prelude.{◌≡◌, ℕ, ◌+◌, ◌<◌, ◌≤◌, List, [], ◌∷◌, ◌++◌, length, reverse, All, true}
 use Rattle.prolog_terms.specs.Tree.{Tree, Trees, variable, integer, atom, more, count}
-use Rattle.prolog_terms.specs.Substitutions.{substituted, all_substituted, variables, variables_after, all_variables_after, variable_count, place_of, numbered, renamed}
+use Rattle.prolog_terms.specs.Substitutions.{substituted, all_substituted, variables, variables_after, all_variables_after, variable_count, contains, place_of, numbered, renamed}
 use Rattle.prolog_terms.specs.Flat.{nodes, nodes_all, forest, joined}
 use Rattle.prolog_terms.specs.declared.node.Node.{Node}
 use Rattle.prolog_terms.specs.declared.node.Node.TheVariants.{Var, Int, Atom, Functor}
@@ -35,6 +35,13 @@ abbrev pub nodes_at : (ℕ → List ℕ) → List (ℕ × List Cell) → List Ce
 nodes_at name rows [] = []
 nodes_at name rows (c ∷ cs) = node_at name rows c ∷ nodes_at name rows cs
 
+-- a cell that is a variable is one of the list
+abbrev pub IsMet : List ℕ → Cell → Type 0
+IsMet seen (of_cell.Variable v) = contains v seen ≡ true
+IsMet seen (of_cell.Integer z) = Unit {0}
+IsMet seen (of_cell.Atom n) = Unit {0}
+IsMet seen (of_cell.Compound i) = Unit {0}
+
 -- the cell at the end of a cell's bindings was written, and its arguments are to be written next
 pub record IsUnfolded (s : Shape) (c : Cell) (todo after : List Cell) (seen met : List ℕ) (written longer : List Cell) : Type 0 where
   pub end : Cell
@@ -43,6 +50,8 @@ pub record IsUnfolded (s : Shape) (c : Cell) (todo after : List Cell) (seen met 
   pub longer_is : longer ≡ written ++ end ∷ []
   pub valid : IsCell s end × All (IsCell s) args
   pub named : (most : ℕ) → AreNamed most s → IsNamed most c → IsNamed most end × All (IsNamed most) args
+  pub met_is : IsMet met end
+  pub stays : (v : ℕ) → contains v seen ≡ true → contains v met ≡ true
   pub spelled : (name : ℕ → List ℕ) → nodes (value name s c) ≡ node_at name s.compounds end ∷ nodes_all (trees_of (value name s) args)
   pub found : (name : ℕ → List ℕ) → all_variables_after met (trees_of (value name s) args) ≡ variables_after seen (value name s c)
   pub smaller : size_all (trees_of (value plain s) args) < size (value plain s c)
@@ -52,6 +61,7 @@ pub record IsUnfolding (s : Shape) (c : Cell) (todo written : List Cell) (seen :
   pub valid : All (IsCell s) (reverse todo)
   pub cells : All (IsCell s) written
   pub named : (most : ℕ) → AreNamed most s → IsNamed most c → All (IsNamed most) (reverse todo) × All (IsNamed most) written
+  pub met : All (IsMet seen) written
   pub spelled : (name : ℕ → List ℕ) → nodes (value name s c) ≡ nodes_at name s.compounds written ++ nodes_all (trees_of (value name s) (reverse todo))
   pub found : (name : ℕ → List ℕ) → all_variables_after seen (trees_of (value name s) (reverse todo)) ≡ variables (value name s c)
 

@@ -40,3 +40,7 @@ pub record CanGoBack (m : Trailed) (s : Shape) : Type 0 where
   pub compounds : m.compounds ≤ length s.compounds
   pub bindings : m.bindings ≤ length s.bindings
   pub formed : IsShape (back m s)
+
+-- each mark of the old store can be gone back to from the new one, and gives what it gave, but for the count of variables
+abbrev pub IsTakenBack : Shape → Shape → Type 0
+IsTakenBack old new = (m : Trailed) → CanGoBack m old → CanGoBack m new × (back m new ≡ record (back m old) { variables = new.variables })

@@ -12,7 +12,7 @@ use prolog_terms::Want;
 impl Store {
     ghost use Rattle.term_store.specs.Terms.{IsCell, row_at};
     ghost use Rattle.term_store.specs.Later.{IsLater};
-    ghost use Rattle.term_store.specs.Copies.{IsCopy, IsUnfolded, IsUnfolding, IsRebuilt, IsRebuilding, IsMade, AreEnough, arity_at, behind};
+    ghost use Rattle.term_store.specs.Copies.{IsCopy, IsUnfolded, IsUnfolding, IsRebuilt, IsRebuilding, IsMade, IsMet, AreEnough, arity_at, behind};
 
     /// A cell of a copy of what the cell stands for, with new variables, the first of which is the one that occurs
     /// first. A term without variables isn't copied: the cell itself is the answer. For want of memory the store is as
@@ -103,6 +103,8 @@ impl Store {
         requires fits { from + length seen.now ≤ self.old.variables }
         requires valid { All (IsCell self.old) cells.now }
         requires enough { AreEnough self.old.compounds cells.now }
+        requires some { 1 ≤ length cells.now }
+        requires met { All (IsMet seen.now) cells.now }
         ensures later { IsLater self.old self.new }
         ensures cell { IfOk result (λ c. IsMade (behind from seen.now) self.old self.new cells.now c) }
     {
@@ -114,7 +116,7 @@ impl Store {
         }
         match stack.pop() {
             Some(cell) => Ok(cell),
-            None => Err(Want),
+            None => unreachable!(),
         }
     }
 
@@ -129,6 +131,7 @@ impl Store {
         requires fits { from + length seen.now ≤ self.old.variables }
         requires valid { IsCell self.old cell }
         requires enough { arity_at self.old.compounds cell ≤ length stack.old.items }
+        requires met { IsMet seen.now cell }
         requires cells { All (IsCell self.old) (reverse stack.old.items) }
         ensures later { IsLater self.old self.new }
         ensures rebuilt { OnOk result (IsRebuilt (behind from seen.now) self.old self.new cell stack.old.items stack.new.items) }
@@ -137,7 +140,7 @@ impl Store {
         match cell {
             Cell::Variable(number) => {
                 let Some(place) = seen.find(number) else {
-                    return Err(Want);
+                    unreachable!();
                 };
                 stack.push(Cell::Variable(from + place))?;
                 Ok(())

@@ -22,15 +22,16 @@ pub(crate) struct Matching {
 
 impl Store {
     ghost use Rattle.term_store.specs.Terms.{raw, lookup, IsCell, HasTerm, AreNamed};
-    ghost use Rattle.term_store.specs.Later.{IsLater, AreLonger, AreDistinct};
+    ghost use Rattle.term_store.specs.Later.{IsLater, IsTakenBack, AreLonger, AreDistinct};
     ghost use Rattle.term_store.specs.Puts.{shifted};
     ghost use Rattle.term_store.specs.Heads.{IsMadeOne, CannotBeOne, IsFurther, Comes, Matches, stage, stage_with, left_at};
 
     /// Makes a term and what a cell stands for one, by their most general unifier. The term's variables are new ones: so
     /// many are made, and its variable n is the n-th of them. It is false where no substitution makes the two equal;
-    /// bindings may have been made then too, as at Want, and are undone by going back to a mark. The term isn't built
-    /// but where a compound of it meets a free variable. A variable that stands in the term for the first time is bound
-    /// to what it meets without a look at it, since nothing refers to the variable yet.
+    /// bindings may have been made then too, as at Want, and are undone by going back to a mark. Want is answered too
+    /// where numbers of variables run out. The term isn't built but where a compound of it meets a free variable. A
+    /// variable that stands in the term for the first time is bound to what it meets without a look at it, since nothing
+    /// refers to the variable yet.
     pub fn unify_new(
         &mut self,
         names: &mut Names,
@@ -48,6 +49,7 @@ impl Store {
         ensures named { AreNamed (length names.new) self.new }
         ensures made_one { IfOk result (λ yes. IsTrue yes → IsMadeOne names.new self.old self.new (renamed self.old.variables term.now) cell) }
         ensures refused { IfOk result (λ yes. IsFalse yes → CannotBeOne names.new self.old (renamed self.old.variables term.now) cell) }
+        ensures want { OnErr result (IsTakenBack self.old self.new) }
     {
         self.known();
         let _ = names.count();

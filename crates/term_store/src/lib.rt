@@ -17,8 +17,6 @@ mod put;
 mod read;
 mod solve;
 mod store;
-#[cfg(test)]
-mod tests;
 
 pub use above::above_variables;
 pub use cell::{Cell, Trailed, View};

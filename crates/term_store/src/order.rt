@@ -1,7 +1,7 @@
 // The variables of a term, in order of first occurrence.
-ghost use Rattle.std.specs.Prelude.{◌≡◌, ◌<◌, [], length, IfOk, IfSome, OnErr};
+ghost use Rattle.std.specs.Prelude.{◌≡◌, ◌<◌, [], length, false, IfOk, IfSome, IsNone, OnErr};
 ghost use Rattle.prolog_terms.specs.Tree.{variable};
-ghost use Rattle.prolog_terms.specs.Substitutions.{variables_after, place_of};
+ghost use Rattle.prolog_terms.specs.Substitutions.{variables_after, contains, place_of};
 
 use prolog_terms::Want;
 use std::alloc::Global;
@@ -48,6 +48,7 @@ impl Seen {
     pub fn find(&self, number: u64) -> Option<u64>
         ensures place { IfSome result (λ n. n ≡ place_of number self.now) }
         ensures low { IfSome result (λ n. n < length self.now) }
+        ensures none { IsNone result → contains number self.now ≡ false }
     {
         self.places.get(&number).copied()
     }

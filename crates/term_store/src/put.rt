@@ -1,5 +1,5 @@
 // Terms into a store.
-ghost use Rattle.std.specs.Prelude.{◌≡◌, ℕ, List, ◌≤◌, ◌+◌, ◌++◌, length, reverse, All, IfOk, OnOk};
+ghost use Rattle.std.specs.Prelude.{◌≡◌, ℕ, List, ◌≤◌, ◌+◌, ◌++◌, length, reverse, All, IfOk, OnOk, OnErr};
 ghost use Rattle.prolog_terms.specs.Tree.{Trees, variable, none, more, count};
 ghost use Rattle.prolog_terms.specs.Substitutions.{substituted, all_substituted, beyond};
 ghost use Rattle.prolog_terms.specs.Flat.{forest, joined};
@@ -11,11 +11,12 @@ use std::alloc::Global;
 
 impl Store {
     ghost use Rattle.term_store.specs.Terms.{raw, HasTerm, AreNamed};
-    ghost use Rattle.term_store.specs.Later.{IsLater, AreLonger, AreDistinct};
+    ghost use Rattle.term_store.specs.Later.{IsLater, IsTakenBack, AreLonger, AreDistinct};
     ghost use Rattle.term_store.specs.Puts.{shifted, placed, IsFit, AreFit, Grows, AreCells};
 
     /// A cell of the term, whose variable n is the store's variable from + n; its texts get numbers. At Want some of
-    /// its compounds may stand in the store, and some of its texts may have got numbers. The time is linear in the term.
+    /// its compounds may stand in the store, which going back to any earlier mark takes away, and some of its texts may
+    /// have got numbers. The time is linear in the term.
     pub fn put(&mut self, names: &mut Names, term: &Term, from: u64) -> Result<Cell, Want>
         requires variables { from + beyond term.now ≤ self.old.variables }
         requires named { AreNamed (length names.old) self.old }
@@ -27,6 +28,7 @@ impl Store {
         ensures named { AreNamed (length names.new) self.new }
         ensures cell { IfOk result (λ c. HasTerm (length names.new) self.new c) }
         ensures term { IfOk result (λ c. raw names.new self.new c ≡ substituted (λ n. variable (from + n)) term.now) }
+        ensures want { OnErr result (IsTakenBack self.old self.new) }
     {
         let _ = names.count();
         self.put_nodes(names, term.nodes(), from)
@@ -54,7 +56,7 @@ impl Store {
         }
         match stack.pop() {
             Some(cell) => Ok(cell),
-            None => Err(Want),
+            None => unreachable!(),
         }
     }
 

@@ -20,6 +20,7 @@ impl Store {
         requires valid { HasTerm (length names.now) self.now cell }
         ensures { IfOk result (λ t. t ≡ substituted (λ v. variable (place_of v (variables (term_of names.now self.now cell)))) (term_of names.now self.now cell)) }
     {
+        self.known();
         let alloc = self.allocator();
         let mut nodes = Vec::new(alloc);
         let mut seen = Seen::new(alloc);
@@ -28,10 +29,7 @@ impl Store {
         while let Some(next) = todo.pop() {
             self.read_cell(names, &mut todo, &mut seen, &mut nodes, next)?;
         }
-        match Term::of_nodes(nodes) {
-            Ok(term) => Ok(term),
-            Err(_) => Err(Want),
-        }
+        Ok(Term::from_prefix(nodes))
     }
 
     /// Reads one cell: its node, and its arguments go to what is to do, the first of them last.

@@ -19,7 +19,7 @@ pub(crate) struct Pair {
 impl Store {
     ghost use Rattle.term_store.specs.Work.{Solves, IsFreeIfVariable, IsFound, AreFound, Outcome};
     ghost use Rattle.term_store.specs.Terms.{raw_by, bindings_by, lookup, IsShape, IsNamed, IsOlder, term_of, text, IsCell, HasTerm, AreNamed, IsUnified, HaveNoUnifier};
-    ghost use Rattle.term_store.specs.Later.{IsLater, AreDistinct};
+    ghost use Rattle.term_store.specs.Later.{IsLater, IsTakenBack, AreDistinct};
     ghost use Rattle.term_store.specs.Views.{Looks, Sees, tree_of};
 
     /// The cell at the end of a cell's bindings: a free variable, or no variable.
@@ -213,6 +213,7 @@ impl Store {
         ensures named { (count : ℕ) → AreNamed count self.old → HasTerm count self.old a → HasTerm count self.old b → AreNamed count self.new }
         ensures unified { IfOk result (λ yes. IsTrue yes → (texts : List (List ℕ)) → IsUnified texts self.old self.new a b) }
         ensures refused { IfOk result (λ yes. IsFalse yes → (texts : List (List ℕ)) → AreDistinct texts → AreNamed (length texts) self.old → HasTerm (length texts) self.old a → HasTerm (length texts) self.old b → HaveNoUnifier texts self.old a b) }
+        ensures want { OnErr result (IsTakenBack self.old self.new) }
     {
         self.known();
         let mut work = Vec::new(self.allocator());

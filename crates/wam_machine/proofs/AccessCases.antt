@@ -4,7 +4,8 @@ use Rattle.prolog_terms.specs.Tree.{Tree}
 use Rattle.prolog_clauses.specs.Formed.{parts_of}
 use Rattle.term_store.specs.declared.cell.Cell.{Cell}
 use Rattle.wam_machine.specs.Goals.{access_in}
-use Rattle.wam_machine.specs.Machine.{State, Setting, accessing, inspecting, retracting, clearing, abolishing}
+use Rattle.wam_machine.specs.States.{State, Setting}
+use Rattle.wam_machine.specs.Procedures.{accessing, inspecting, retracting, clearing, abolishing}
 use Rattle.wam_machine.specs.Naming.{naming_of}
 use Rattle.wam_machine.specs.declared.control.Access.{Access}
 use Rattle.wam_machine.specs.declared.control.Access.TheVariants.{Inspect, Retract, RetractAll, Abolish}

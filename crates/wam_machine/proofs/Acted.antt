@@ -12,8 +12,8 @@ use Rattle.term_store.specs.Terms.{trees_of}
 use Rattle.term_store.specs.declared.cell.Cell.{Cell}
 use Rattle.journal_base.specs.Goals.{Goal}
 use Rattle.journals.specs.Journal.{Journal}
-use Rattle.wam_machine.specs.Machine as spec
-use Rattle.wam_machine.specs.Machine.{Next, Alternative, State, Outcome, Goes, Look, Deed, cut_to, onwards, pushed, height, raises}
+use Rattle.wam_machine.specs.States as spec
+use Rattle.wam_machine.specs.States.{Next, Alternative, State, Outcome, Goes, Look, Deed, cut_to, onwards, pushed, height, raises}
 use Rattle.wam_machine.specs.Terms.{Left, Turn, Saved, Said, AreTerms, KeepsCells, said, call_in, calls_in}
 use Rattle.wam_machine.specs.View.{Acts, alternative_of, choice_of, stack_of, state_from, state_with, state_of, mode_of, calls}
 use Rattle.wam_machine.specs.declared.run.Event.{Event}

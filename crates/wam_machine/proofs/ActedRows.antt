@@ -8,7 +8,8 @@ use Rattle.journals.specs.Journal.{Journal}
 use Rattle.term_builtins.specs.Meanings.{Meaning, Holds, Equates, Writes, Puts, Raises}
 use Rattle.term_unifier.specs.Unifier.{unifier}
 use Rattle.wam_machine.specs.Called.{IsCalled, IsRowCalled}
-use Rattle.wam_machine.specs.Machine.{Look, Deed, Goes, coming_to, calling_builtin, solving}
+use Rattle.wam_machine.specs.States.{Deed, Goes, solving}
+use Rattle.wam_machine.specs.Machine.{coming_to, calling_builtin}
 use Rattle.wam_machine.specs.Terms.{Saved, Said, AreTerms, IsSolved, said, calls_in}
 use Rattle.wam_machine.specs.View.{Acts, mode_of, settled_mode, state_with}
 use Rattle.wam_machine.specs.declared.builtins.Called.{Called}

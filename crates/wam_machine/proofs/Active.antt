@@ -3,7 +3,8 @@ use Rattle.std.proofs.Common.{◌≡◌, ℕ, suc, ◌-◌, ◌<◌, ◌≤◌, 
 use Rattle.prolog_terms.specs.Tree.{Tree}
 use Rattle.term_store.specs.declared.cell.Cell.{Cell}
 use Rattle.term_store.specs.Terms.{term_of}
-use Rattle.wam_machine.specs.Machine.{Next, active_catch}
+use Rattle.wam_machine.specs.States.{Next}
+use Rattle.wam_machine.specs.Machine.{active_catch}
 use Rattle.wam_machine.specs.declared.terms.Frame.{Frame}
 use Rattle.wam_machine.specs.declared.terms.Terms.{Terms}
 use Rattle.wam_machine.specs.declared.terms.Next.{Next as Waiting}

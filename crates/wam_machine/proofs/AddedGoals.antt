@@ -8,7 +8,8 @@ use Rattle.term_store.specs.declared.cell.Cell.{Cell}
 use Rattle.term_store.specs.Terms.{trees_of}
 use Rattle.prolog_terms.specs.Clauses.{body_of}
 use Rattle.wam_machine.specs.Control.{joined, atom_with}
-use Rattle.wam_machine.specs.Machine.{State, Outcome, calling_added, raises, running, call_with}
+use Rattle.wam_machine.specs.States.{State, Outcome, raises}
+use Rattle.wam_machine.specs.Machine.{calling_added, running, call_with}
 use Rattle.wam_machine.proofs.SeenCells.{count_trees}
 
 joined-none : (ts : Trees) → joined ts none ≡ ts

@@ -1,5 +1,5 @@
 -- A clause is added, as the base does it.
-use Rattle.std.proofs.Common.{◌≡◌, ℕ, ◌++◌, ◌∷◌, [], take, refl, sym, ap, ◌∙◌, Bool, true, false, Option, Some, None, List}
+use Rattle.std.proofs.Common.{◌≡◌, ℕ, take, refl, sym, ap, ◌∙◌, Bool, true, false, Option, Some, None}
 use Rattle.std.specs.Prelude.{if◌then◌else◌}
 use Rattle.prolog_terms.specs.Tree.{Tree}
 use Rattle.prolog_terms.specs.Faults.{fault_tree}
@@ -10,7 +10,6 @@ use Rattle.prolog_terms.specs.declared.entry.Indicator.{Indicator}
 use Rattle.prolog_terms.specs.declared.entry.Kind.{Kind}
 use Rattle.prolog_terms.specs.declared.entry.Kind.TheVariants.{Static, Dynamic}
 use Rattle.prolog_terms.specs.declared.entry.End.{End}
-use Rattle.prolog_terms.specs.declared.entry.What.{What}
 use Rattle.prolog_terms.specs.declared.entry.What.TheVariants.{Declare, Add}
 use Rattle.journals.specs.Journal.{Journal, procedure_named}
 use Rattle.journal_base.specs.Legal.{MayAdd}
@@ -22,14 +21,13 @@ use Rattle.prolog_terms.specs.Substitutions.{numbered}
 use Rattle.prolog_clauses.specs.Formed.{clause_of}
 use Rattle.prolog_clauses.specs.declared.clause.Formed.TheVariants.{Clause as Made, Refused}
 use Rattle.wam_machine.specs.Reserved.{is_reserved}
-use Rattle.wam_machine.specs.Machine.{State, Setting, Outcome, Goes, Unfit, adding, adding_to, adding_where, adding_named, adding_clause, adding_formed, asserting, declaring, asking, refusing, raises, no_room, no_change, assert_at}
-use Rattle.wam_machine.specs.Cursors.{Begins}
+use Rattle.wam_machine.specs.States.{State, Setting, Outcome, Goes, Unfit, refusing, raises, no_room}
+use Rattle.wam_machine.specs.Procedures.{adding, adding_to, adding_where, adding_named, adding_clause, adding_formed, asserting, declaring, no_change, assert_at}
 use Rattle.wam_machine.specs.View.{setting, IsFronted, IsHostOf, Asks}
 use Rattle.wam_machine.specs.declared.state.Host.{Host}
 use Rattle.wam_machine.specs.declared.state.Machine.{Machine}
 use Rattle.wam_machine.specs.declared.state.Mode.TheVariants.{Raising as RaisingBall}
-use Rattle.wam_machine.proofs.Begins.{begins_before, seen_in}
-use Rattle.wam_machine.proofs.Fronted.{grows_itself, host_on}
+use Rattle.wam_machine.proofs.Begins.{begins_before, seen_in, grows_refl, host_on}
 use Rattle.wam_machine.proofs.Asked.{IsTaken, asked_setting, taken_front, asks_as, asks_nothing, asks_raised, asks_taking, asks_done, asks_refused, refused_full}
 
 -- what an addition needs
@@ -55,15 +53,15 @@ module _ {C : Type 0} (v u : View) (h : Host) (old mid : Machine C) (t : IsTaken
 
   pub added_done : (p : ℕ) → IsSound v → Appends v u (Add end p c) → Asks v u (λ j s. adding (setting h old j) end c s p) old mid
   added_done p sound a =
-      asks_done v u u h old mid mid t (grows_itself u a.grows.sound) front k (Add end p c) (λ j seen s. Goes s) (λ j. refusing (setting h old j) (assert_at end) (Add end p c)) sound a
+      asks_done v u u h old mid mid t (grows_refl u a.grows.sound) front k (Add end p c) (λ j seen s. Goes s) (λ j. refusing (setting h old j) (assert_at end) (Add end p c)) sound a
       (asks_nothing u mid (taken_front u old mid a.grows.sound t))
 
   pub added_full : (p n q g : ℕ) (ball : Tree) → Looks v u → IsFull u (Add end p c) n q g → ball ≡ fault_tree no_room (assert_at end)
       → Asks v u (λ j s. adding (setting h old j) end c s p) old (record mid { mode = RaisingBall ball })
   added_full p n q g ball l full is =
-      asks_refused v u u h old mid (record mid { mode = RaisingBall ball }) t (grows_itself u l.grows.sound) front k (Add end p c) (λ j seen s. Goes s) (λ j. refusing (setting h old j) (assert_at end) (Add end p c)) l
+      asks_refused v u u h old mid (record mid { mode = RaisingBall ball }) t (grows_refl u l.grows.sound) front k (Add end p c) (λ j seen s. Goes s) (λ j. refusing (setting h old j) (assert_at end) (Add end p c)) l
       (asks_as u u (λ j s. raises no_room (assert_at end) s) (λ j s. refusing (setting h old j) (assert_at end) (Add end p c) (take u.seen j) s) mid (record mid { mode = RaisingBall ball })
-      (λ j b s. refused_full h u (assert_at end) (Add end p c) n q g (setting h old j) j s (host_on h v u k l.grows) refl refl full b)
+      (λ j b s. refused_full h u (assert_at end) (Add end p c) n q g (setting h old j) j s (host_on h v u l.grows k) refl refl full b)
       (asks_raised u u mid ball no_room (assert_at end) is refl (taken_front u old mid l.grows.sound t)))
 
   -- ---- a declaration
@@ -71,14 +69,14 @@ module _ {C : Type 0} (v u : View) (h : Host) (old mid : Machine C) (t : IsTaken
   pub declared_full : (i : Indicator) (n q g : ℕ) (ball : Tree) → Looks v u → InSeen u (λ J. procedure_named J i ≡ None) → IsFull u (Declare i Dynamic) n q g → ball ≡ fault_tree no_room (assert_at end)
       → Asks v u (λ j. declaring (setting h old j) end i c) old (record mid { mode = RaisingBall ball })
   declared_full i n q g ball l absent full is =
-      asks_refused v u u h old mid (record mid { mode = RaisingBall ball }) t (grows_itself u l.grows.sound) front k (Declare i Dynamic)
+      asks_refused v u u h old mid (record mid { mode = RaisingBall ball }) t (grows_refl u l.grows.sound) front k (Declare i Dynamic)
       (λ j seen s. adding_where (setting h old j) end i c s (procedure_named seen i) Unfit)
       (λ j seen s. adding_where (setting h old j) end i c s (procedure_named seen i) (refusing (setting h old j) (assert_at end) (Declare i Dynamic) seen s)) l
       (asks_as u u (λ j s. raises no_room (assert_at end) s)
       (λ j s. adding_where (setting h old j) end i c s (procedure_named (take u.seen j) i) (refusing (setting h old j) (assert_at end) (Declare i Dynamic) (take u.seen j) s)) mid (record mid { mode = RaisingBall ball })
       (λ j b s.
       where_absent (setting h old j) end i c s (procedure_named (take u.seen j) i) _ (seen_in u (λ J. procedure_named J i ≡ None) j absent b)
-      ∙ refused_full h u (assert_at end) (Declare i Dynamic) n q g (setting h old j) j s (host_on h v u k l.grows) refl refl full b)
+      ∙ refused_full h u (assert_at end) (Declare i Dynamic) n q g (setting h old j) j s (host_on h v u l.grows k) refl refl full b)
       (asks_raised u u mid ball no_room (assert_at end) is refl (taken_front u old mid l.grows.sound t)))
 
   module _ (w : View) (new : Machine C) (i : Indicator) (g : Grows u w) where

@@ -1,5 +1,5 @@
 -- What is asked of the database, as states of the machine: fronts that are taken, and what was made meanwhile.
-use Rattle.std.proofs.Common.{◌≡◌, ℕ, ◌+◌, ◌≤◌, List, [], ◌∷◌, ◌++◌, length, take, refl, sym, ap, ◌∙◌, subst, arith, append-nil, append_assoc, Bool, true, false}
+use Rattle.std.proofs.Common.{◌≡◌, ℕ, ◌≤◌, List, [], ◌∷◌, ◌++◌, length, take, refl, sym, ap, ◌∙◌, subst, arith, append-nil, append_assoc, Bool, true, false}
 use Rattle.std.specs.Prelude.{nat_le, map, if◌then◌else◌}
 use Rattle.std.proofs.lemmas.Bool.Decides.{nat_tests}
 use Rattle.std.proofs.lemmas.List.{map-append}
@@ -13,17 +13,16 @@ use Rattle.journal_base.specs.Goals.{Goal}
 use Rattle.journals.specs.Journal.{Journal}
 use Rattle.journal_base.specs.View.{View, Grows, Looks, Appends, IsSound}
 use Rattle.journal_base.specs.Updates.{IsFull}
-use Rattle.wam_machine.specs.Machine as spec
-use Rattle.wam_machine.specs.Machine.{State, Setting, Outcome, Goes, Unfit, Deed, Updated, taking, asking, updated, is_done, is_full, raises, refusing, no_room}
+use Rattle.wam_machine.specs.States as spec
+use Rattle.wam_machine.specs.States.{State, Setting, Outcome, Goes, Unfit, Deed, Updated, taking, asking, updated, is_done, is_full, raises, refusing, no_room}
 use Rattle.wam_machine.specs.Cursors.{Begins}
 use Rattle.wam_machine.specs.Terms.{Said, said}
-use Rattle.wam_machine.specs.View.{setting, mode_of, state_with, state_of, IsFronted, IsHostOf, HasOnlyAsked, Asks}
-use Rattle.wam_machine.specs.declared.run.Event.{Event}
+use Rattle.wam_machine.specs.View.{setting, state_with, state_of, IsFronted, IsHostOf, HasOnlyAsked, Asks}
 use Rattle.wam_machine.specs.declared.state.Host.{Host}
 use Rattle.wam_machine.specs.declared.state.Machine.{Machine}
 use Rattle.wam_machine.specs.declared.state.Mode.TheVariants.{Raising as RaisingBall}
-use Rattle.wam_machine.proofs.Begins.{begins_before, long}
-use Rattle.wam_machine.proofs.Fronted.{grows_itself, fronted_seen, fronted_looks, host_on, done_seen, not_done, full_seen}
+use Rattle.wam_machine.proofs.Begins.{begins_before, long, fronted}
+use Rattle.wam_machine.proofs.Fronted.{done_seen, not_done, full_seen}
 
 -- ---- by the definition
 
@@ -180,7 +179,7 @@ module _ {C : Type 0} (v u w : View) (h : Host) (old mid new : Machine C) (t : I
 
 -- the machine has taken all that is seen
 pub taken_front : {C : Type 0} (u : View) (old mid : Machine C) → IsSound u → IsTaken u old mid → IsFronted u mid.front
-taken_front u old mid s t = subst (IsFronted u) (sym t.front) (fronted_seen u s)
+taken_front u old mid s t = subst (IsFronted u) (sym t.front) (fronted u u.seen s refl)
 
 -- nothing further is asked
 pub asks_nothing : {C : Type 0} (u : View) (m : Machine C) → IsFronted u m.front → Asks u u (λ j s. Goes s) m m

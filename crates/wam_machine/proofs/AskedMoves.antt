@@ -1,7 +1,6 @@
 -- What is asked of the database within a move.
 use Rattle.std.proofs.Common.{◌≡◌, ℕ, ◌+◌, List, [], ◌∷◌, ◌++◌, length, refl, sym, ap, ◌∙◌, subst, arith}
 use Rattle.std.specs.Prelude.{map}
-use Rattle.prolog_terms.specs.Tree.{Tree}
 use Rattle.prolog_terms.specs.declared.entry.End.{End}
 use Rattle.prolog_terms.specs.declared.entry.Entry.{Entry}
 use Rattle.term_store.specs.declared.cell.Cell.{Cell}
@@ -9,7 +8,8 @@ use Rattle.journal_base.specs.Goals.{Goal}
 use Rattle.journals.specs.Journal.{Journal}
 use Rattle.journal_base.specs.View.{View, Grows, Out}
 use Rattle.journal_base.specs.declared.tally.Tally.{Tally}
-use Rattle.wam_machine.specs.Machine.{State, Outcome, Goes, Deed, Updated, looks_in, made_in, accessing, asserting}
+use Rattle.wam_machine.specs.States.{State, Outcome, Goes, Updated, looks_in, made_in}
+use Rattle.wam_machine.specs.Procedures.{accessing, asserting}
 use Rattle.wam_machine.specs.Control as spec
 use Rattle.wam_machine.specs.Goals.{access_in}
 use Rattle.wam_machine.specs.Cursors.{Begins}

@@ -1,14 +1,12 @@
 -- Moves in parts: what comes of a part is what comes of the whole.
-use Rattle.std.proofs.Common.{◌≡◌, ℕ, ◌+◌, List, [], ◌∷◌, ◌++◌, length, take, refl, sym, ap, ◌∙◌, subst}
-use Rattle.prolog_terms.specs.Tree.{Tree}
+use Rattle.std.proofs.Common.{◌≡◌, ℕ, List, ◌++◌, length, take, refl, sym, ap, ◌∙◌, subst}
 use Rattle.prolog_terms.specs.declared.entry.Entry.{Entry}
-use Rattle.term_store.specs.declared.cell.Cell.{Cell}
 use Rattle.journal_base.specs.Goals.{Goal}
 use Rattle.journals.specs.Journal.{Journal}
 use Rattle.journal_base.specs.View.{View, Grows, Looks, IsSound, Out}
-use Rattle.wam_machine.specs.Machine.{State, Setting, Outcome, Goes, Deed, taking, looks_in}
+use Rattle.wam_machine.specs.States.{State, Setting, Outcome, Goes, Deed, taking, looks_in}
 use Rattle.wam_machine.specs.Cursors.{Begins}
-use Rattle.wam_machine.specs.Terms.{Left, Saved, Said, AreTerms, IsGrown, said, calls_in}
+use Rattle.wam_machine.specs.Terms.{Left, Said, AreTerms, said, calls_in}
 use Rattle.wam_machine.specs.View.{setting, mode_of, state_with, state_of, calls, IsReady, IsLeft, IsHeld, IsHeldIn, AreKept, Works, GoesOn, Makes, IsFronted, HasOnlyAsked, Asks}
 use Rattle.wam_machine.specs.declared.state.Host.{Host}
 use Rattle.wam_machine.specs.declared.state.Machine.{Machine}

@@ -7,8 +7,9 @@ use Rattle.prolog_terms.specs.Tree.{Tree}
 use Rattle.journal_base.specs.Goals.{Goal}
 use Rattle.journals.specs.Journal.{Journal}
 use Rattle.journal_base.specs.View.{View, Out}
-use Rattle.wam_machine.specs.Machine as spec
-use Rattle.wam_machine.specs.Machine.{State, Setting, Outcome, Goes, Ends, Deed, height, cut_to, cut_back, leaving_catch, over, active_catch, caught, raising, reached, reaching, halting, move}
+use Rattle.wam_machine.specs.States as spec
+use Rattle.wam_machine.specs.States.{State, Setting, Outcome, Goes, Ends, Deed, height, cut_to, cut_back, over}
+use Rattle.wam_machine.specs.Machine.{leaving_catch, active_catch, caught, raising, reached, reaching, halting, move}
 use Rattle.wam_machine.specs.Terms.{Turn, OfCall, OfRight, OfRepeat, OfNot, OfCatch, OfFindall, AreTerms, HasCatch, is_catch, said, calls_in}
 use Rattle.wam_machine.specs.View.{alternative_of, choice_of, stack_of, state_of, mode_of, calls, Acts, AreKept, GoesOn, ComesToEnd, Does, IsHeld, IsHeldIn, IsLeft}
 use Rattle.wam_machine.specs.declared.run.RunEnd.{RunEnd}

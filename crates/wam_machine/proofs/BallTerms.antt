@@ -5,8 +5,9 @@ use Rattle.prolog_terms.specs.Clauses.{call_term}
 use Rattle.prolog_terms.specs.Substitutions.{substituted, renamed, beyond}
 use Rattle.term_store.specs.declared.cell.Cell.{Cell}
 use Rattle.term_unifier.specs.Unifier.{unifier}
-use Rattle.wam_machine.specs.Machine as spec
-use Rattle.wam_machine.specs.Machine.{Next, Do, State, Setting, Outcome, Goes, Going, next_under, raise_it, catching_ball, recovering, reached}
+use Rattle.wam_machine.specs.States as spec
+use Rattle.wam_machine.specs.States.{Next, Do, State, Setting, Outcome, Goes, Going, next_under}
+use Rattle.wam_machine.specs.Machine.{raise_it, catching_ball, recovering, reached}
 use Rattle.wam_machine.specs.Terms.{Said, OfCatch, AreTerms, IsBuilt, KeepsCells, KeepsBound, IsSolved, said, built, calls_in}
 use Rattle.wam_machine.specs.View.{Acts, stack_of, state_from, state_with, state_of, mode_of}
 use Rattle.wam_machine.specs.declared.state.Machine.{Machine}

@@ -18,7 +18,7 @@ use Rattle.term_builtins.specs.Meanings.{Meaning, Holds, Equates, Writes, Puts, 
 use Rattle.term_builtins.specs.Table.{builtins, indicator}
 use Rattle.term_builtins.specs.declared.run.Did.TheVariants as did
 use Rattle.wam_machine.specs.Called.{IsCalled, IsRowCalled}
-use Rattle.wam_machine.specs.Machine.{next_under}
+use Rattle.wam_machine.specs.States.{next_under}
 use Rattle.wam_machine.specs.Terms.{Said, said, built, IsBuilt, AreTerms}
 use Rattle.wam_machine.specs.declared.builtins.Called.TheVariants as called
 use Rattle.wam_machine.specs.declared.terms.Terms.{Terms}

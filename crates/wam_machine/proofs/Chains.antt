@@ -67,5 +67,5 @@ fair_scan J a b p (Built m) le h = tt
 
 -- what is fair after a front is fair after an earlier one
 pub fair_before : (J : Journal) (a b : ℕ) (g : Goal) (how : How) → a ≤ b → IsFair b g how J → IsFair a g how J
-fair_before J a b g (Indexed mark covered age late kept) le h = h
+fair_before J a b g (Indexed by) le h = h
 fair_before J a b g (Scanned c) le h = fair_scan J a b g.procedure c le h

@@ -7,9 +7,9 @@ use Rattle.std.proofs.lemmas.List.Elements.{All-nil, All-cons, All-head, All-tai
 use Rattle.std.proofs.lemmas.List.Sums.{sum_by-append}
 use Rattle.journal_base.specs.Goals.{Goal}
 use Rattle.journals.specs.Journal.{Journal}
-use Rattle.wam_machine.specs.Machine as spec
+use Rattle.wam_machine.specs.States as spec
 use Rattle.journal_base.specs.View.{View, Looks}
-use Rattle.wam_machine.specs.Machine.{State, Outcome, Goes, cut_back, fails}
+use Rattle.wam_machine.specs.States.{State, Outcome, Goes, cut_back, fails}
 use Rattle.wam_machine.specs.Terms.{Left, Saved, Said, AreTerms, said, call_in, calls_in}
 use Rattle.wam_machine.specs.Cursors.{AreNamed, visits_left}
 use Rattle.wam_machine.specs.View.{state_with, state_from, state_of, mode_of, calls, Works, GoesOn, IsHeld, IsHeldIn, IsLeft}

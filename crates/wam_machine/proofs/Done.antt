@@ -3,7 +3,7 @@ use Rattle.std.proofs.Common.{ℕ, List, [], length, sym, ap, ◌∙◌, subst, 
 use Rattle.journal_base.specs.Goals.{Goal}
 use Rattle.journals.specs.Journal.{Journal}
 use Rattle.journal_base.specs.View.{View, Out}
-use Rattle.wam_machine.specs.Machine.{State, Outcome}
+use Rattle.wam_machine.specs.States.{State, Outcome}
 use Rattle.wam_machine.specs.View.{Acts, AreKept, GoesOn, IsHeld, IsHeldIn, IsLeft, calls}
 use Rattle.wam_machine.specs.declared.state.Machine.{Machine}
 use Rattle.wam_machine.proofs.Steps.{quiet}

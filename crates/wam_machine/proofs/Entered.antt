@@ -17,7 +17,7 @@ use Rattle.term_store.specs.Later.{IsLater, back, CanGoBack}
 use Rattle.term_unifier.specs.Unifier.{Unifies, IsMostGeneral}
 use Rattle.term_unifier.proofs.Known.{known-some, known-none}
 use Rattle.wam_machine.specs.declared.terms.Terms.{Terms}
-use Rattle.wam_machine.specs.Machine.{Next, Do, next_under}
+use Rattle.wam_machine.specs.States.{Next, Do, next_under}
 use Rattle.wam_machine.specs.Terms.{Said, said, built, IsBuilt, IsGoal, AreTerms, IsSolved, AreEquated}
 use Rattle.wam_machine.specs.Control.{is_true_atom, body_goals}
 use Rattle.wam_machine.proofs.Grown.{Grows, has_term-grown, meaning-grown, back-later}

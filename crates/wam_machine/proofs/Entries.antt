@@ -18,8 +18,9 @@ use Rattle.wam_machine.specs.declared.terms.Terms.{Terms}
 use Rattle.wam_machine.specs.declared.terms.Use.{Use}
 use Rattle.wam_machine.specs.declared.terms.Use.TheVariants as use_is
 use Rattle.wam_machine.specs.Control.{body_goals}
-use Rattle.wam_machine.specs.Machine as spec
-use Rattle.wam_machine.specs.Machine.{Next, Do, next_under, body_from, side_of_clause, side_of_call, first_goals}
+use Rattle.wam_machine.specs.States as spec
+use Rattle.wam_machine.specs.States.{Next, Do, next_under}
+use Rattle.wam_machine.specs.Procedures.{body_from, side_of_clause, side_of_call, first_goals}
 use Rattle.wam_machine.specs.Terms.{Said, said, built, use_of, IsBuilt, AreTerms, KeepsCells, IsSolved, AreEquated, IsEntered, IsCompared}
 use Rattle.std.proofs.lemmas.List.{map-append}
 use Rattle.term_store.proofs.Laws.{later-itself, later-further, later-variables, longer-itself, longer-length, are_named-more, are_named-variables, free-meaning, new-free}

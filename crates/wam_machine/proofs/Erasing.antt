@@ -1,7 +1,6 @@
 -- An erasure that is asked for: it is done, the clause is gone, or there is no room for it.
 use Rattle.std.proofs.Common.{◌≡◌, ℕ, zero, suc, ◌+◌, ◌≤◌, List, [], ◌∷◌, ◌++◌, length, take, refl, sym, ap, ◌∙◌, subst, arith, append-nil, Bool, true, false, eq-eqb, Some}
 use Rattle.std.specs.Prelude.{map, slice_get, nat_lt, ◌==◌, ◌||◌, if◌then◌else◌}
-use Rattle.std.specs.List.{list_any}
 use Rattle.prolog_terms.specs.Tree.{Tree}
 use Rattle.prolog_terms.specs.Faults.{fault_tree}
 use Rattle.prolog_terms.specs.declared.entry.Entry.{Entry}
@@ -12,11 +11,12 @@ use Rattle.journal_base.specs.Space.{used, need}
 use Rattle.journals.specs.Journal.{Journal, is_erased, erases}
 use Rattle.journal_base.specs.Legal.{MayChangeClause}
 use Rattle.journal_base.specs.View.{View, Looks, Appends, IsSound, InSeen}
-use Rattle.wam_machine.specs.Machine as spec
-use Rattle.wam_machine.specs.Machine.{State, Setting, Outcome, Goes, Unfit, Deed, Updated, ToErase, serving, raises, fails, refusing, no_room, retract_at, is_full}
+use Rattle.wam_machine.specs.States as spec
+use Rattle.wam_machine.specs.States.{State, Setting, Outcome, Goes, Unfit, Deed, Updated, ToErase, raises, fails, refusing, no_room, is_full}
+use Rattle.wam_machine.specs.Procedures.{serving, retract_at}
 use Rattle.wam_machine.specs.Cursors.{Begins, IsChangeable}
 use Rattle.wam_machine.specs.Terms.{said}
-use Rattle.wam_machine.specs.View.{setting, state_of, state_with, mode_of, IsFronted, IsHostOf, Asks, Erases, after_erasure}
+use Rattle.wam_machine.specs.View.{setting, state_of, state_with, IsFronted, IsHostOf, Asks, Erases, after_erasure}
 use Rattle.wam_machine.specs.declared.database.Erasure.{Erasure}
 use Rattle.wam_machine.specs.declared.database.Erasure.TheVariants as erasure
 use Rattle.wam_machine.specs.declared.state.Host.{Host}

@@ -16,7 +16,9 @@ use Rattle.std.specs.Prelude.{codes, pos}
 use Rattle.term_unifier.specs.Unifier.{unifier}
 use Rattle.call_patterns.specs.Keys.{keys, could_match}
 use Rattle.wam_machine.specs.Control.{plain}
-use Rattle.wam_machine.specs.Machine.{calling_builtin, accessing, made_in, Setting, State, Report, Outcome, Goes, Ends, Unfit, Runs, ends, goes, move, beginning, Transcript, Misfits, unfit, later}
+use Rattle.wam_machine.specs.States.{made_in, Setting, State, Report, Outcome, Goes, Ends, Unfit}
+use Rattle.wam_machine.specs.Procedures.{accessing}
+use Rattle.wam_machine.specs.Machine.{calling_builtin, Runs, ends, goes, move, beginning, Transcript, Misfits, unfit, later}
 use Rattle.wam_machine.specs.Rows.{IsUnfit, declared, two_dynamic, dynamic_rule, dynamic_pair, any_k, erases, inspects, retracts, retracts_all, abolishes, named, clause_two, retract_one, retract_all_one, abolish_one, private, GivesIn, Gives, Refuses, Alone, changed, declares, adds, k, a_dynamic, a_static, asserta, assertz, asserta_one, assertz_one, static, HasRows, catches, finds, findall_three, either_y, y, nil, two, throws, halts, halts_with, catch_three, throw_one, halt_one, a, a_cut, a_loop, a_rule, any_between, b, both, c, call, called, closed, copied_number, copies, cut, denied, equal, failure, is_free, is_one, is_two, list_of, mem, members, number, on, once, one, one_and_more, one_or_two, one_pair, opened, or, p, repeats, then, three_facts, trees, truth, uncallable, x}
 
 -- what a run gives within so many moves

@@ -20,7 +20,10 @@ use Rattle.wam_machine.specs.declared.run.RunEnd.TheVariants.{Exhausted, Ball, S
 use Rattle.prolog_terms.specs.Clauses.{body_of, call_term}
 use Rattle.term_builtins.specs.Meanings.{Meaning, Holds, Equates, Writes, Puts, Raises, list_tree}
 use Rattle.wam_machine.specs.Control.{Control, True, Fail, Cut, Repeat, Both, Either, IfElse, If, Not, Call, Once, Catch, Findall, Throw, Halt, HaltWith, Database, Builtin, User, control_of, with_added}
-use Rattle.wam_machine.specs.Machine.{Next, Do, ConditionEnd, NotEnd, CatchEnd, FindallEnd, Alternative, Clauses, Right, Again, NotMark, CatchMark, FindallMark, Choice, Mode, Going, Failing, Raising, made_in, State, Setting, Report, Outcome, Goes, Ends, over, stepping, onwards, pushed, height, cut_to, not_callable, answer, next_under, solving, trying, call_with, raises, running, calling_added, denying, catching, gathering, new_copies, behind_copies, found_at, throwing, halting, halt_with, not_integer, cut_back, active_catch, recovering, reaching, reached, caught, repeating, performing, doing, goal_move, going, back_to, taken, failing, raising, move, beginning, Runs, ends, goes, EachGoalRuns, CanBeDone, HasBody, IsWellMade, HasBodies, coming_to, calling_builtin}
+use Rattle.wam_machine.specs.States.{Next, Do, ConditionEnd, NotEnd, CatchEnd, FindallEnd, Alternative, Clauses, Right, Again, NotMark, CatchMark, FindallMark, Choice, Mode, Going, Failing, Raising, made_in, State, Setting, Report, Outcome, Goes, Ends, over, stepping, onwards, pushed, height, cut_to, not_callable, next_under, solving, raises, cut_back}
+use Rattle.wam_machine.specs.Procedures.{trying}
+use Rattle.wam_machine.specs.Machine.{answer, call_with, running, calling_added, denying, catching, gathering, new_copies, behind_copies, found_at, throwing, halting, halt_with, not_integer, active_catch, recovering, reaching, reached, caught, repeating, performing, doing, goal_move, going, back_to, taken, failing, raising, move, beginning, Runs, ends, goes, coming_to, calling_builtin}
+use Rattle.wam_machine.specs.Laws.{EachGoalRuns, CanBeDone, HasBody, IsWellMade, HasBodies}
 use Rattle.wam_machine.proofs.WellMade.{HasParts, parts, goes-makes, begins-well}
 use Rattle.wam_machine.proofs.Laws.{Within, move-within}
 use Rattle.wam_machine.proofs.Settles.{Stops, Settles, stops, moves, settles}

@@ -9,7 +9,8 @@ use Rattle.term_store.specs.Later.{IsLater, AreLonger}
 use Rattle.term_store.proofs.Laws.{raw-stays, has_term-later, longer-length}
 use Rattle.term_unifier.proofs.Trees.{substituted-variable}
 use Rattle.wam_machine.specs.Control.{first_body}
-use Rattle.wam_machine.specs.Machine.{Next, Do, shown_list}
+use Rattle.wam_machine.specs.States.{Next, Do}
+use Rattle.wam_machine.specs.Machine.{shown_list}
 use Rattle.wam_machine.specs.View.{said_at_first}
 use Rattle.wam_machine.specs.declared.run.Goal.{Goal}
 use Rattle.wam_machine.specs.Terms.{Said, said, built, IsBuilt, goals_at, saved_of}

@@ -4,7 +4,9 @@ use Rattle.std.specs.Prelude.{◌==◌, ◌≢◌, All, if◌then◌else◌}
 use Rattle.std.proofs.lemmas.Bool.Decides.{eqb_tells}
 use Rattle.std.proofs.lemmas.List.Elements.{All-nil, All-cons, All-head, All-tail}
 use Rattle.prolog_terms.specs.Tree.{Tree}
-use Rattle.wam_machine.specs.Machine.{Alternative, Clauses, Right, Again, NotMark, CatchMark, FindallMark, Choice, with_found, found_at, cut_to, is_mark, CanBeTaken, CanGoBack}
+use Rattle.wam_machine.specs.States.{Alternative, Clauses, Right, Again, NotMark, CatchMark, FindallMark, Choice, cut_to}
+use Rattle.wam_machine.specs.Machine.{with_found, found_at}
+use Rattle.wam_machine.specs.Laws.{is_mark, CanBeTaken, CanGoBack}
 
 -- ---- one choice
 

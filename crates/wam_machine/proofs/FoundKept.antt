@@ -12,8 +12,9 @@ use Rattle.term_store.specs.Terms.{term_of}
 use Rattle.term_store.specs.Later.{back}
 use Rattle.journal_base.specs.Goals.{Goal}
 use Rattle.journals.specs.Journal.{Journal}
-use Rattle.wam_machine.specs.Machine as spec
-use Rattle.wam_machine.specs.Machine.{with_found, found_at, newest}
+use Rattle.wam_machine.specs.States as spec
+use Rattle.wam_machine.specs.Machine.{with_found, found_at}
+use Rattle.wam_machine.specs.Laws.{newest}
 use Rattle.wam_machine.specs.Terms.{Left, Turn, OfCall, OfRight, OfRepeat, OfNot, OfCatch, OfFindall, Saved, Said, said, saved_of, turn_of, turn_with, found_from, found_in, call_in, calls_in, IsKeptTurn, AreChoices, AreTerms}
 use Rattle.wam_machine.specs.View.{alternative_of, choice_of, stack_of}
 use Rattle.wam_machine.specs.declared.terms.Alternative.{Alternative}

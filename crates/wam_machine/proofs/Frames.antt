@@ -6,7 +6,7 @@ use Rattle.prolog_terms.specs.Tree.{Tree}
 use Rattle.term_store.specs.Shape.{Shape}
 use Rattle.term_store.specs.declared.cell.Cell.{Cell}
 use Rattle.wam_machine.specs.declared.terms.Frame.{Frame}
-use Rattle.wam_machine.specs.Machine.{Next}
+use Rattle.wam_machine.specs.States.{Next}
 use Rattle.wam_machine.specs.Terms.{frame_at, goals_from, goals_at, next_of, IsFrame, AreFrames}
 
 -- each of the first n frames leads on to one below it

@@ -1,74 +1,21 @@
 -- Fronts and entries of the base's engine: what is seen after an update that is done, and after one that is refused.
-use Rattle.std.proofs.Common.{◌≡◌, ℕ, suc, zero, ◌+◌, ◌-◌, ◌<◌, ◌≤◌, ◌⊎◌, inl, inr, List, [], ◌∷◌, ◌++◌, length, take, drop, refl, sym, ap, ◌∙◌, subst, arith, min, Bool, true, false, eq-eqb, Option, Some, None}
+use Rattle.std.proofs.Common.{◌≡◌, ℕ, suc, zero, ◌+◌, ◌-◌, ◌<◌, ◌≤◌, ◌⊎◌, inl, inr, List, [], ◌∷◌, ◌++◌, length, take, refl, sym, ap, ◌∙◌, subst, arith, Bool, true, false, eq-eqb, Option, Some}
 use Rattle.std.specs.Prelude.{nat_lt, ◌==◌, ◌&&◌, ◌||◌, cond, slice_get, filter}
 use Rattle.std.specs.Option.{option_map_or}
-use Rattle.std.proofs.lemmas.List.{length-take, take-take, take-append-drop, length-append}
+use Rattle.std.proofs.lemmas.List.{length-take, take-take, length-append}
 use Rattle.std.proofs.lemmas.Bool.Decides.{nat_tests}
-use Rattle.std.proofs.Math.Seq.{take-length}
 use Rattle.prolog_terms.specs.declared.entry.Entry.{Entry}
 use Rattle.prolog_terms.specs.declared.entry.What.{What}
 use Rattle.journals.specs.Journal.{Journal}
 use Rattle.journal_base.specs.Space.{used, need}
-use Rattle.journal_base.specs.View.{View, Grows, Looks, Appends, IsSound, InSeen, entries_by}
+use Rattle.journal_base.specs.View.{View, Looks, Appends, IsSound, entries_by}
 use Rattle.journal_base.specs.Updates.{IsFull}
 use Rattle.wam_machine.specs.Cursors.{Begins}
-use Rattle.wam_machine.specs.Machine.{Setting, ends_with_own, is_done, is_full}
-use Rattle.wam_machine.specs.View.{AreBelow, IsFronted, IsHostOf}
-use Rattle.wam_machine.specs.declared.state.Host.{Host}
-use Rattle.wam_machine.proofs.Begins.{begins_before, long, seen_in}
-
--- ---- a base that grows
-
-pub grows_itself : (a : View) → IsSound a → Grows a a
-grows_itself a s = record {
-  front = omega arith;
-  prefix = λ J h. let whole : a.seen ≤ length J = (s.each J h).long in (length J, (whole, (omega arith, subst a.stands_for (sym (take-length J)) h)));
-  number = refl;
-  words = refl;
-  updates = refl;
-  causes = refl;
-  sound = s;
-}
-
-pub grows_further : (a b c : View) → Grows a b → Grows b c → Grows a c
-grows_further a b c p q = record {
-  front = omega (arith, p.front, q.front);
-  prefix = λ J s. go J (q.prefix J s);
-  number = q.number ∙ p.number;
-  words = q.words ∙ p.words;
-  updates = q.updates ∙ p.updates;
-  causes = q.causes ∙ p.causes;
-  sound = q.sound;
-}
-  where
-    more : (J : Journal) (n : ℕ) → b.seen ≤ n → n ≤ length J → (m : ℕ) × ((a.seen ≤ m) × ((m ≤ length (take n J)) × a.stands_for (take m (take n J))))
-        → (m : ℕ) × ((a.seen ≤ m) × ((m ≤ length J) × a.stands_for (take m J)))
-    more J n low high (m, (l, (h, s))) =
-        let e : length (take n J) ≡ min n (length J) = length-take n J in
-        let le : m ≤ n = omega arith in
-        (m, (l, (omega arith, subst a.stands_for (take-take m n J le) s)))
-
-    go : (J : Journal) → (n : ℕ) × ((b.seen ≤ n) × ((n ≤ length J) × b.stands_for (take n J))) → (m : ℕ) × ((a.seen ≤ m) × ((m ≤ length J) × a.stands_for (take m J)))
-    go J (n, (l, (h, s))) = more J n l h (p.prefix (take n J) s)
+use Rattle.wam_machine.specs.States.{Setting, ends_with_own, is_done, is_full}
+use Rattle.wam_machine.specs.View.{IsFronted}
+use Rattle.wam_machine.proofs.Begins.{begins_before, long, seen_in, own_in, fronted_on}
 
 -- ---- fronts
-
--- what is seen has all entries of the engine
-pub own_below : (v : View) (j : Journal) → IsSound v → Begins v j → entries_by v.number (take v.seen j) ≡ v.own
-own_below v j s b = ap (entries_by v.number) b.same ∙ (s.each b.journal b.stands).own_seen
-
-pub fronted_seen : (v : View) → IsSound v → IsFronted v v.seen
-fronted_seen v s = record { reached = omega arith; below = λ j b. own_below v j s b }
-
-pub fronted_looks : (v w : View) (front : ℕ) → Looks v w → IsFronted v front → IsFronted w front
-fronted_looks v w front l f = record {
-  reached = omega (arith, f.reached, l.grows.front);
-  below = λ j b. ap (λ k. entries_by k (take front j)) l.grows.number ∙ f.below j (begins_before v w j l.grows b) ∙ sym l.own;
-}
-
--- a host that knows its base knows it as it grows
-pub host_on : (h : Host) (v w : View) → IsHostOf h v → Grows v w → IsHostOf h w
-host_on h v w k g = record { engine = k.engine ∙ sym g.number; words = k.words ∙ sym g.words; updates = k.updates ∙ sym g.updates }
 
 seen_long : (w : View) (j : Journal) → IsSound w → Begins w j → length (take w.seen j) ≡ w.seen
 seen_long w j s b =
@@ -93,8 +40,8 @@ front_rises v w what j s a b = go (nat_lt v.seen w.seen) refl
         let high : w.seen ≤ v.seen = grind (arith, nat_tests) in
         let low = a.grows.front in
         let same : w.seen ≡ v.seen = omega (arith, high, low) in
-        let before : entries_by v.number (take v.seen j) ≡ v.own = own_below v j s (begins_before v w j a.grows b) in
-        let after : entries_by w.number (take w.seen j) ≡ w.own = own_below w j a.grows.sound b in
+        let before : entries_by v.number (take v.seen j) ≡ v.own = own_in v j s (begins_before v w j a.grows b) in
+        let after : entries_by w.number (take w.seen j) ≡ w.own = own_in w j a.grows.sound b in
         absurd (one_more v.own _ (sym before ∙ ap (λ (n : ℕ). entries_by v.number (take n j)) (sym same) ∙ ap (λ (k : ℕ). entries_by k (take w.seen j)) (sym a.grows.number) ∙ after ∙ a.own))
 
 get_taken : (xs : Journal) (n k : ℕ) → k < n → slice_get (take n xs) k ≡ slice_get xs k
@@ -167,9 +114,9 @@ not_done x v w front j is l f b = go (nat_lt front (length (take w.seen j))) ref
         let low : front < length (take w.seen j) = grind (arith, nat_tests) in
         let count : length (take w.seen j) ≡ w.seen = seen_long w j l.grows.sound b in
         let le : front ≤ w.seen = omega (arith, count, low) in
-        let after : IsFronted w front = fronted_looks v w front l f in
+        let after : IsFronted w front = fronted_on v w front l f in
         let same : entries_by w.number (take front (take w.seen j)) ≡ entries_by w.number (take w.seen j) =
-        ap (entries_by w.number) (take-take front w.seen j le) ∙ after.below j b ∙ sym (own_below w j l.grows.sound b) in
+        ap (entries_by w.number) (take-take front w.seen j le) ∙ after.below j b ∙ sym (own_in w j l.grows.sound b) in
         ap (λ (k : ℕ). ends_with_own k (take w.seen j)) is ∙ last_beyond (λ (y : Entry). y.by == w.number) (take w.seen j) front low same
 
 -- ---- no room

@@ -9,8 +9,9 @@ use Rattle.prolog_terms.specs.Faults.{two}
 use Rattle.term_store.specs.declared.cell.Cell.{Cell}
 use Rattle.term_builtins.specs.Meanings.{list_tree}
 use Rattle.term_unifier.specs.Unifier.{unifier}
-use Rattle.wam_machine.specs.Machine as spec
-use Rattle.wam_machine.specs.Machine.{Setting, State, Outcome, Goes, Going, fails, solving, gathered, found_at, new_copies, behind_copies, next_under, move}
+use Rattle.wam_machine.specs.States as spec
+use Rattle.wam_machine.specs.States.{Setting, State, Outcome, Goes, Going, fails, solving, next_under}
+use Rattle.wam_machine.specs.Machine.{gathered, found_at, new_copies, behind_copies, move}
 use Rattle.wam_machine.specs.Terms.{Said, OfFindall, AreTerms, IsBuilt, IsGrown, KeepsCells, IsSolved, said, built, calls_in, found_in}
 use Rattle.wam_machine.specs.View.{Acts, stack_of, state_from, state_with, mode_of}
 use Rattle.wam_machine.specs.declared.state.Machine.{Machine}

@@ -9,7 +9,8 @@ use Rattle.term_store.specs.declared.cell.Cell.{Cell}
 use Rattle.wam_machine.specs.Control as spec
 use Rattle.wam_machine.specs.Control.{control_of}
 use Rattle.prolog_terms.specs.declared.entry.Entry.{Entry}
-use Rattle.wam_machine.specs.Machine.{State, Setting, Outcome, Next, Do, Goes, Deed, Going, Failing, move, going, fails}
+use Rattle.wam_machine.specs.States.{State, Setting, Outcome, Next, Do, Goes, Deed, Going, Failing, fails}
+use Rattle.wam_machine.specs.Machine.{move, going}
 use Rattle.wam_machine.specs.Terms.{Said, AreTerms, said, calls_in, is_any_open}
 use Rattle.wam_machine.specs.Goals.{IsSimple}
 use Rattle.wam_machine.specs.View.{setting, state_from, state_with, state_of, stack_of, mode_of, calls, performs_goal, GoesOn, Does, IsHeld, IsHeldIn, IsLeft, IsReady, AreKept}

@@ -36,7 +36,9 @@ use Rattle.wam_machine.specs.Reserved.{is_reserved}
 use Rattle.wam_machine.specs.Control.{Access, Assert, Inspect, Retract, RetractAll, Abolish}
 use Rattle.wam_machine.specs.declared.naming.Naming.{Naming}
 use Rattle.wam_machine.specs.declared.naming.Naming.TheVariants.{Names, NamesNone}
-use Rattle.wam_machine.specs.Machine.{Next, Purpose, ToShow, ToErase, Use, Enter, Match, Candidate, Failing, Raising, Look, Deed, Looked, Updated, entry_in, made_in, State, Setting, Outcome, Goes, Unfit, taking, fails, raises, height, bound_further, updated, ends_with_own, is_done, is_full, asking, no_room, refusing, erasing, numbering, side_of_clause, side_of_call, first_goals, retract_at, serving, using, meeting, leaving, trying, candidate_clauses, looked, searching, called, calling, not_callable, no_change, assert_at, adding, adding_to, adding_where, declaring, adding_named, adding_clause, adding_formed, headed, clause_at, call_for, refusal_for, matching_kind, matching_where, matching, unless_integer, inspecting, retracting, is_swept, one_tried, retract_all_at, abolish_at, sweep_at, sweeping, swept_keys, sweeping_all, sweeping_kind, declared_meanwhile, declaring_swept, absent_swept, sweeping_where, sweeping_named, abolishing, accessing, HasBody, HasBodies}
+use Rattle.wam_machine.specs.States.{Next, Purpose, ToShow, ToErase, Use, Enter, Match, Candidate, Failing, Raising, Look, Deed, Looked, Updated, entry_in, made_in, State, Setting, Outcome, Goes, Unfit, taking, fails, raises, height, bound_further, updated, ends_with_own, is_done, is_full, asking, no_room, refusing, erasing, not_callable}
+use Rattle.wam_machine.specs.Procedures.{numbering, side_of_clause, side_of_call, first_goals, retract_at, serving, using, meeting, leaving, trying, candidate_clauses, looked, searching, called, calling, no_change, assert_at, adding, adding_to, adding_where, declaring, adding_named, adding_clause, adding_formed, headed, clause_at, call_for, refusal_for, matching_kind, matching_where, matching, unless_integer, inspecting, retracting, is_swept, one_tried, retract_all_at, abolish_at, sweep_at, sweeping, swept_keys, sweeping_all, sweeping_kind, declared_meanwhile, declaring_swept, absent_swept, sweeping_where, sweeping_named, abolishing, accessing}
+use Rattle.wam_machine.specs.Laws.{HasBody, HasBodies}
 
 -- the state at other fronts to come
 unfoldable pub at : State → List ℕ → State

@@ -1,7 +1,7 @@
 -- What the engine finds a head, a body and a clause to be, by what is seen of their cells.
 use Rattle.std.proofs.Common.{◌≡◌, ℕ, ℤ, ◌<◌, ◌≤◌, List, [], ◌∷◌, length, get_or, refl, sym, ap, ◌∙◌, subst, arith, Bool, true, false, codes}
 use Rattle.std.specs.Prelude.{if◌then◌else◌}
-use Rattle.prolog_terms.specs.Tree.{Tree, Trees, variable, integer, atom, compound, none, more, count}
+use Rattle.prolog_terms.specs.Tree.{Tree, Trees, variable, integer, atom, compound, count}
 use Rattle.prolog_terms.specs.Clauses.{is_named}
 use Rattle.prolog_terms.specs.Faults.{two}
 use Rattle.prolog_clauses.specs.Formed.{Parts, parts_of, rule, fact}

@@ -3,7 +3,8 @@ use Rattle.std.proofs.Common.{◌≡◌, ℕ, zero, suc, ◌+◌, ◌-◌, ◌�
 use Rattle.prolog_terms.specs.Tree.{Tree, variable}
 use Rattle.prolog_terms.specs.Substitutions.{substituted, renamed}
 use Rattle.term_unifier.proofs.Trees.{substituted-after, substituted-same}
-use Rattle.wam_machine.specs.Machine.{Next, Do, ConditionEnd, NotEnd, CatchEnd, FindallEnd, Choice, cut_to, next_under, newest, EngineLaws}
+use Rattle.wam_machine.specs.States.{Next, Do, ConditionEnd, NotEnd, CatchEnd, FindallEnd, Choice, cut_to, next_under}
+use Rattle.wam_machine.specs.Laws.{newest, EngineLaws}
 
 pub newest-append : {A B : Type 0} (f : A → B) (xs ys : List A) (onto : List B) → newest f (xs ++ ys) onto ≡ newest f ys (newest f xs onto)
 newest-append f [] ys onto = refl

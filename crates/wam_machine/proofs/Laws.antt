@@ -1,6 +1,6 @@
 -- A goal has one transcript at most, and its steps are within the budget.
 use Rattle.std.proofs.Common.{◌≡◌, ℕ, suc, ◌+◌, ◌≤◌, List, [], ◌∷◌, Bool, true, false, refl, sym, ◌∙◌, subst, arith, inl, inr}
-use Rattle.std.specs.Prelude.{pos, ◌-◌, ◌==◌, ◌≢◌, ◌⊎◌, ◌&&◌, nat_lt, codes, if◌then◌else◌, Option, Some, None, take}
+use Rattle.std.specs.Prelude.{pos, ◌-◌, ◌==◌, ◌≢◌, ◌⊎◌, nat_lt, codes, if◌then◌else◌, Option, Some, None, take}
 use Rattle.std.proofs.lemmas.Bool.Decides.{eqb_tells}
 use Rattle.prolog_terms.specs.Operators.{Table}
 use Rattle.prolog_terms.specs.Tree.{Tree, Trees, variable, integer, atom, compound, count}
@@ -14,7 +14,9 @@ use Rattle.term_builtins.specs.Meanings.{Meaning, Holds, Equates, Writes, Puts, 
 use Rattle.wam_machine.specs.Control.{Access, Control, True, Fail, Cut, Repeat, Both, Either, IfElse, If, Not, Call, Once, Catch, Findall, Throw, Halt, HaltWith, Database, Builtin, User, control_of, with_added}
 use Rattle.wam_machine.specs.declared.run.RunEnd.{RunEnd}
 use Rattle.wam_machine.specs.declared.run.RunEnd.TheVariants.{Exhausted, Ball, Spent, Halted}
-use Rattle.wam_machine.specs.Machine.{Use, Candidate, Next, Do, ConditionEnd, NotEnd, CatchEnd, FindallEnd, Alternative, Clauses, Right, Again, NotMark, CatchMark, FindallMark, Choice, Mode, Going, Failing, Raising, State, Setting, Report, Outcome, Goes, Ends, Unfit, no_more, over, stepping, onwards, height, solving, equating, numbering, side_of_clause, side_of_call, first_goals, entering, leaving, trying, candidate_clauses, calling, call_with, running, calling_added, denying, catching, gathering, gathered, new_copies, behind_copies, throwing, halting, cut_back, leaving_catch, active_catch, recovering, reaching, reached, caught, repeating, performing, doing, goal_move, going, back_to, taken, failing, raising, raises, move, Runs, ends, goes, coming_to, calling_builtin, accessing}
+use Rattle.wam_machine.specs.States.{Use, Candidate, Next, Do, ConditionEnd, NotEnd, CatchEnd, FindallEnd, Alternative, Clauses, Right, Again, NotMark, CatchMark, FindallMark, Choice, Mode, Going, Failing, Raising, State, Setting, Report, Outcome, Goes, Ends, Unfit, no_more, over, stepping, onwards, height, solving, equating, cut_back, raises}
+use Rattle.wam_machine.specs.Procedures.{numbering, side_of_clause, side_of_call, first_goals, entering, leaving, trying, candidate_clauses, calling, accessing}
+use Rattle.wam_machine.specs.Machine.{call_with, running, calling_added, denying, catching, gathering, gathered, new_copies, behind_copies, throwing, halting, leaving_catch, active_catch, recovering, reaching, reached, caught, repeating, performing, doing, goal_move, going, back_to, taken, failing, raising, move, Runs, ends, goes, coming_to, calling_builtin}
 use Rattle.wam_machine.proofs.Lasting.{IsNear, meeting-lasts, calling-lasts, accessing-lasts}
 
 -- ---- one transcript

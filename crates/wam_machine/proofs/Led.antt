@@ -12,18 +12,14 @@ use Rattle.journal_base.specs.declared.cause.How.{How}
 use Rattle.journal_base.specs.declared.tally.Tally.{Tally}
 use Rattle.prolog_terms.specs.declared.entry.Entry.{Entry}
 use Rattle.journal_base.specs.View.{entries_by}
-use Rattle.wam_machine.specs.Machine.{Look, Deed, Setting, Runs, ends, goes, move, beginning, looks_in, made_in, look_in, entry_in}
+use Rattle.wam_machine.specs.States.{Look, Setting, looks_in, look_in, entry_in}
+use Rattle.wam_machine.specs.Machine.{Runs, ends, goes, move, beginning}
 use Rattle.wam_machine.specs.Runs.{IsFairLook, allowances, report_of, IsTranscribed}
-use Rattle.wam_machine.specs.View.{setting, state_of, Works, GoesOn, ComesToEnd, IsLed, IsBeginning, no_tally, run_of, calls}
+use Rattle.wam_machine.specs.View.{state_of, Works, GoesOn, ComesToEnd, IsLed, IsBeginning, no_tally, run_of, calls}
 use Rattle.wam_machine.specs.declared.run.Goal.{Goal as Started}
 use Rattle.wam_machine.specs.declared.run.RunEnd.{RunEnd}
-use Rattle.wam_machine.specs.Terms.{Left, Said, said, calls_in}
-use Rattle.wam_machine.specs.declared.state.Host.{Host}
+use Rattle.wam_machine.specs.Terms.{Left, Said, calls_in}
 use Rattle.wam_machine.specs.declared.state.Machine.{Machine}
-
--- the setting is the same while the shown term is
-pub one_setting : {C : Type 0} (h : Host) (m n : Machine C) (j : Journal) → (said n.terms).shown ≡ (said m.terms).shown → setting h n j ≡ setting h m j
-one_setting h m n j e = ap (λ (t : Tree). let x : Setting = record { engine = h.engine; journal = j; words = h.sizes.words; updates = h.sizes.updates; start = h.start; budget = h.budget; shown = t; ops = h.ops.now } in x) e
 
 -- ---- lists that go on
 

@@ -6,7 +6,7 @@ use Rattle.prolog_terms.specs.declared.entry.What.{What}
 use Rattle.prolog_terms.specs.declared.entry.What.TheVariants.{Declare, Add, Erase}
 use Rattle.journals.specs.Journal.{Journal, added}
 use Rattle.journal_base.specs.Legal.{MayFollow}
-use Rattle.wam_machine.specs.Machine.{HasBody, LegalHasBodies}
+use Rattle.wam_machine.specs.Laws.{HasBody, LegalHasBodies}
 
 each_all : {X : Type 0} (P : X → Type 0) (xs : List X) → ((k : ℕ) (x : X) → slice_get xs k ≡ Some x → P x) → All P xs
 each_all P [] h = All-nil P

@@ -70,7 +70,6 @@ pub mod Examples
 pub mod FoundAt
 pub mod FoundKept
 pub mod Marks
-pub mod FindallMarks
 pub mod BallTerms
 pub mod BallMoves
 pub mod Gathered

@@ -17,8 +17,9 @@ use Rattle.journal_base.specs.declared.tally.Tally.{Tally}
 use Rattle.prolog_terms.specs.Tree.{Tree}
 use Rattle.prolog_terms.specs.Faults.{fault_tree}
 use Rattle.prolog_terms.specs.declared.fault.Fault.TheVariants.{Existence}
-use Rattle.wam_machine.specs.Machine as spec
-use Rattle.wam_machine.specs.Machine.{State, Outcome, Goes, Next, Raising, Setting, Look, Deed, Looked, Updated, Enter, taking, called, calling, trying}
+use Rattle.wam_machine.specs.States as spec
+use Rattle.wam_machine.specs.States.{State, Outcome, Goes, Next, Raising, Setting, Look, Deed, Looked, Updated, Enter, taking}
+use Rattle.wam_machine.specs.Procedures.{called, calling, trying}
 use Rattle.wam_machine.specs.Cursors.{IsOpened, goal_of, clauses_left, visits_left}
 use Rattle.wam_machine.specs.View.{stack_of, mode_of, state_from, state_with, state_of, calls, all_visits, aheads, GoesOn, Works, IsHeldIn, IsSearch, Tries, KeepsCounts}
 use Rattle.wam_machine.specs.Terms.{Left, Said, said, calls_in}
@@ -51,7 +52,7 @@ plain_cause (Built m) h = absurd (omega (arith, h))
 
 -- where `Plain` alone may come, each look scans for it
 only_plain : (how : How) → TellsOnly (0 ∷ []) how → how ≡ Scanned Plain
-only_plain (Indexed mark covered age late kept) h = absurd (h.0 refl)
+only_plain (Indexed by) h = absurd (h.0 refl)
 only_plain (Scanned c) h = plain_cause c (no_cause c h.1)
 
 -- ---- a call, as the definition has it

@@ -8,7 +8,7 @@ use Rattle.term_store.specs.declared.cell.Cell.{Cell}
 use Rattle.term_store.specs.declared.cell.Trailed.{Trailed}
 use Rattle.term_store.specs.Terms.{raw, term_of, meaning, HasTerm}
 use Rattle.term_store.specs.Later.{back, CanGoBack}
-use Rattle.wam_machine.specs.Machine.{Next}
+use Rattle.wam_machine.specs.States.{Next}
 use Rattle.wam_machine.specs.declared.terms.Alternative.{Alternative}
 use Rattle.wam_machine.specs.declared.terms.Alternative.TheVariants as is
 use Rattle.prolog_terms.specs.Tree.{Tree}

@@ -1,5 +1,5 @@
 -- Clauses that are matched with a head and a body: what follows by what was found.
-use Rattle.std.proofs.Common.{◌≡◌, ℕ, zero, suc, ◌<◌, ◌≤◌, List, [], ◌∷◌, ◌++◌, length, take, drop, refl, sym, ap, ◌∙◌, subst, arith, Bool, true, false, Option, Some, None}
+use Rattle.std.proofs.Common.{◌≡◌, ℕ, zero, suc, ◌<◌, ◌≤◌, List, [], ◌∷◌, ◌++◌, length, take, drop, refl, sym, ap, ◌∙◌, subst, Bool, true, false, Option, Some, None}
 use Rattle.std.specs.Prelude.{if◌then◌else◌, option_and_then, option_map, slice_get, Result, Ok, Err, OnOk}
 use Rattle.std.proofs.lemmas.List.{take-take, take-append-drop}
 use Rattle.std.proofs.lemmas.Grind.{flat_map-append}
@@ -14,8 +14,9 @@ use Rattle.journals.specs.Journal.{Journal, declaration, procedures, number_of, 
 use Rattle.journal_base.proofs.Procedures.{named_there}
 use Rattle.wam_machine.specs.Reserved.{is_reserved}
 use Rattle.wam_machine.specs.Cursors.{IsDynamic, IsFor}
-use Rattle.wam_machine.specs.Machine as spec
-use Rattle.wam_machine.specs.Machine.{State, Setting, Outcome, Goes, Purpose, ToShow, ToErase, Match, taking, raises, refusal_for, call_for, searching, headed, retract_at, matching, matching_where, matching_kind, retracting}
+use Rattle.wam_machine.specs.States as spec
+use Rattle.wam_machine.specs.States.{State, Setting, Outcome, Goes, Purpose, ToShow, ToErase, Match, taking, raises}
+use Rattle.wam_machine.specs.Procedures.{refusal_for, call_for, headed, retract_at, matching, matching_where, matching_kind, retracting}
 use Rattle.wam_machine.specs.View.{IsSearch}
 use Rattle.wam_machine.proofs.Named.{procedure_stays, procedure_within}
 use Rattle.wam_machine.proofs.Ready.{found_number}

@@ -1,5 +1,5 @@
 -- The machine's moves at the engine's states.
-use Rattle.std.proofs.Common.{◌≡◌, ℕ, suc, ◌+◌, ◌≤◌, List, [], ◌∷◌, ◌++◌, Bool, true, false, length, take, refl, ◌∙◌, ap, arith, inl, inr, Some, None}
+use Rattle.std.proofs.Common.{◌≡◌, ℕ, suc, ◌+◌, List, [], ◌∷◌, Bool, true, false, refl, ◌∙◌, ap, arith, inl, inr, Some}
 use Rattle.std.specs.Prelude.{◌==◌, ◌≢◌, ◌⊎◌, ◌||◌}
 use Rattle.std.specs.List.{list_any}
 use Rattle.std.proofs.lemmas.Bool.Decides.{eqb_tells}
@@ -7,8 +7,10 @@ use Rattle.prolog_terms.specs.Tree.{Tree}
 use Rattle.journal_base.specs.Goals.{Goal}
 use Rattle.journals.specs.Journal.{Journal}
 use Rattle.wam_machine.specs.Control.{Control, True, Fail, Cut, Repeat, Both, Either, IfElse, If, Not, Call, Once, Catch, Findall, Throw, Halt, HaltWith, Database, Builtin, User, control_of}
-use Rattle.wam_machine.specs.Machine as spec
-use Rattle.wam_machine.specs.Machine.{Next, Do, Alternative, Clauses, Right, Again, NotMark, CatchMark, FindallMark, State, Setting, Outcome, Goes, Ends, Deed, Report, Failing, move, goal_move, doing, performing, stepping, taken, back_to, is_alternative, over, newest}
+use Rattle.wam_machine.specs.States as spec
+use Rattle.wam_machine.specs.States.{Next, Do, Alternative, Clauses, Right, Again, NotMark, CatchMark, FindallMark, State, Setting, Outcome, Goes, Ends, Deed, Report, Failing, stepping, over}
+use Rattle.wam_machine.specs.Machine.{move, goal_move, doing, performing, taken, back_to, is_alternative}
+use Rattle.wam_machine.specs.Laws.{newest}
 use Rattle.wam_machine.specs.Terms.{Turn, OfCall, OfRight, OfRepeat, OfNot, OfCatch, OfFindall, Saved, is_open, is_any_open}
 use Rattle.wam_machine.specs.View.{alternative_of, choice_of, stack_of, resuming}
 use Rattle.wam_machine.specs.declared.run.Event.{Event}

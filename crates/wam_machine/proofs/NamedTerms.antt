@@ -1,10 +1,10 @@
 -- The name and arity that a term names, by what is seen of its cells.
 use Rattle.std.proofs.Common.{◌≡◌, ℕ, ℤ, pos, negsuc, ◌<◌, ◌≤◌, List, [], ◌∷◌, length, get_or, refl, sym, ap, ◌∙◌, subst, arith, Bool, true, false, codes, w64, w32, Fits, SFits, T, nat_abs, of_z, to_z}
 use Rattle.std.specs.Int.Signed.{non_neg}
-use Rattle.std.specs.Prelude.{if◌then◌else◌, nat_lt, int_lt, FitsSigned}
+use Rattle.std.specs.Prelude.{if◌then◌else◌, nat_lt, int_lt}
 use Rattle.std.proofs.Math.Facts.{to_z-of_z}
 use Rattle.std.proofs.lemmas.Bool.Decides.{nat_tests}
-use Rattle.prolog_terms.specs.Tree.{Tree, variable, integer, atom, compound}
+use Rattle.prolog_terms.specs.Tree.{Tree, integer, compound}
 use Rattle.prolog_terms.specs.Clauses.{is_named}
 use Rattle.prolog_terms.specs.Faults.{two}
 use Rattle.prolog_terms.specs.Substitutions.{numbered}
@@ -15,7 +15,6 @@ use Rattle.term_store.specs.declared.cell.View.TheVariants as view
 use Rattle.term_store.specs.Terms.{trees_of}
 use Rattle.term_store.specs.Views.{tree_of}
 use Rattle.wam_machine.specs.Naming.{naming_of, no_indicator, by_name, without_name, with_name, with_arity, not_of_type}
-use Rattle.wam_machine.specs.declared.naming.Naming.{Naming}
 use Rattle.wam_machine.specs.declared.naming.Naming.TheVariants.{Names, NamesNone}
 use Rattle.wam_machine.proofs.SpineParts.{two-trees}
 

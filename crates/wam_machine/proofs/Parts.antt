@@ -7,7 +7,7 @@ use Rattle.call_patterns.specs.Keys.{GoalKeys, keys}
 use Rattle.journals.specs.Journal.{Journal}
 use Rattle.journal_base.specs.Goals.{Goal}
 use Rattle.call_patterns.specs.Candidates.{candidates}
-use Rattle.wam_machine.specs.Machine.{candidate_named, candidate_clauses}
+use Rattle.wam_machine.specs.Procedures.{candidate_named, candidate_clauses}
 use Rattle.wam_machine.specs.Cursors.{goal_of, part, names_left, clauses_left, visits_left, IsOpenTo, IsUsable, AreNamed}
 use Rattle.wam_machine.specs.Terms.{Left}
 use Rattle.wam_machine.proofs.Usable.{candidates_usable}

@@ -10,7 +10,8 @@ use Rattle.wam_machine.specs.Control as spec
 use Rattle.wam_machine.specs.Control.{control_of}
 use Rattle.prolog_terms.specs.declared.entry.Entry.{Entry}
 use Rattle.journal_base.specs.View.{View}
-use Rattle.wam_machine.specs.Machine.{Setting, performing}
+use Rattle.wam_machine.specs.States.{Setting}
+use Rattle.wam_machine.specs.Machine.{performing}
 use Rattle.wam_machine.specs.Goals.{IsSimple, control_in}
 use Rattle.wam_machine.specs.View.{state_of, performs_goal, GoesOn, ComesToEnd, Does, IsHeld}
 use Rattle.wam_machine.specs.declared.control.Control.{Control}

@@ -5,7 +5,7 @@ use Rattle.std.proofs.lemmas.Bool.Decides.{nat_tests}
 use Rattle.std.specs.Global.{Vec}
 use Rattle.std.proofs.lemmas.List.{length-take-le, take_all}
 use Rattle.term_store.specs.Terms.{term_of}
-use Rattle.wam_machine.specs.Machine.{Next}
+use Rattle.wam_machine.specs.States.{Next}
 use Rattle.wam_machine.specs.declared.terms.Frame.{Frame}
 use Rattle.wam_machine.specs.declared.terms.Terms.{Terms}
 use Rattle.wam_machine.specs.Terms.{said, built, IsNext, IsWaiting, AreTerms, AreFrames, AreChoices, frame_at, frames_kept, goals_at, next_of, next_now}

@@ -10,8 +10,10 @@ use Rattle.journals.specs.Journal.{Journal}
 use Rattle.journal_base.specs.Looks.{most_raised}
 use Rattle.journal_base.specs.View.{View}
 use Rattle.journal_base.specs.declared.tally.Tally.{Tally}
-use Rattle.wam_machine.specs.Machine as spec
-use Rattle.wam_machine.specs.Machine.{Next, State, Setting, Outcome, Goes, Ends, Look, Deed, Updated, move, back_to}
+use Rattle.wam_machine.specs.States as spec
+use Rattle.wam_machine.specs.Machine as machines
+use Rattle.wam_machine.specs.States.{Next, State, Setting, Outcome, Goes, Ends, Look, Deed, Updated}
+use Rattle.wam_machine.specs.Machine.{move, back_to}
 use Rattle.wam_machine.specs.Cursors.{AreNamed}
 use Rattle.wam_machine.specs.Terms.{Left, Turn, OfCall, OfRight, OfRepeat, OfNot, OfCatch, OfFindall, Saved, Said, AreTerms, HasNewest, HasCatch, said, call_in, calls_in, is_open, is_catch}
 use Rattle.wam_machine.specs.View.{alternative_of, choice_of, stack_of, mode_of, state_from, state_of, resuming, calls, turn_calls, all_visits, aheads, Acts, GoesOn, ComesToEnd, Works, IsFronted, IsHeld, IsHeldIn, Tries, Resumes, KeepsCounts}
@@ -77,7 +79,7 @@ moment turn t = record { turn = turn; goals = t.goals; bindings = t.bindings }
 module _ {C : Type 0} (x : Setting) (m : Machine C) (failing : m.mode ≡ IsFailing) where
   module _ (rest : C → Goal → Journal → List ℕ) (at : C → ℕ) (j : Journal) (looks : List Deed) (tried : ℕ) (fronts : List ℕ) where
     pub came_back : (ss : List (Saved C)) (s : Saved C) → (said m.terms).stack ≡ ss ++ s ∷ []
-        → move x (state_of rest at j m looks tried fronts) ≡ spec.taken x (back_to (state_of rest at j m looks tried fronts) (choice_of rest at j s) (stack_of rest at j ss)) (alternative_of rest at j s.turn)
+        → move x (state_of rest at j m looks tried fronts) ≡ machines.taken x (back_to (state_of rest at j m looks tried fronts) (choice_of rest at j s) (stack_of rest at j ss)) (alternative_of rest at j s.turn)
     came_back ss s is =
         fails_back x (state_of rest at j m looks tried fronts) (choice_of rest at j s) (stack_of rest at j ss) (ap mode_of failing) (ap (stack_of rest at j) is ∙ stack-push rest at j ss s)
 

@@ -26,7 +26,7 @@ pub less : (a b c : ℕ) → a + b ≤ c → a ≤ c
 less a b c h = omega arith
 
 one_scan : (how : How) → scans_of how ≤ 1
-one_scan (Indexed mark covered age late kept) = omega arith
+one_scan (Indexed by) = omega arith
 one_scan (Scanned c) = omega arith
 
 one_some : (o : Option Cause) → count_some o ≤ 1
@@ -34,7 +34,7 @@ one_some None = omega arith
 one_some (Some c) = omega arith
 
 one_kept : (how : How) → kept_of how ≤ 1
-one_kept (Indexed mark covered age late kept) = one_some kept
+one_kept (Indexed by) = one_some by.kept
 one_kept (Scanned c) = omega arith
 
 one_cause : (c : Cause) → want_of c ≤ 1
@@ -53,7 +53,7 @@ one_kept_want None = omega arith
 one_kept_want (Some c) = one_cause c
 
 one_want : (how : How) → wants_of how ≤ 1
-one_want (Indexed mark covered age late kept) = one_kept_want kept
+one_want (Indexed by) = one_kept_want by.kept
 one_want (Scanned c) = one_cause c
 
 -- what holds of each journal and is a bound holds

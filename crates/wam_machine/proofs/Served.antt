@@ -1,10 +1,10 @@
 -- What follows where two sides were made one, and where they have no unifier.
-use Rattle.std.proofs.Common.{◌≡◌, ℕ, List, refl, sym, ap, ◌∙◌, Bool, true, false}
+use Rattle.std.proofs.Common.{◌≡◌, ℕ, refl, ap, ◌∙◌, Bool, true, false}
 use Rattle.prolog_terms.specs.Tree.{Tree}
-use Rattle.journals.specs.Journal.{Journal}
 use Rattle.journal_base.specs.View.{View}
 use Rattle.term_store.specs.declared.cell.Cell.{Cell}
-use Rattle.wam_machine.specs.Machine.{State, Setting, Goes, ToErase, serving}
+use Rattle.wam_machine.specs.States.{State, Setting, Goes, ToErase}
+use Rattle.wam_machine.specs.Procedures.{serving}
 use Rattle.wam_machine.specs.Terms.{use_of}
 use Rattle.wam_machine.specs.View.{setting, state_of, IsFronted, Asks, where_met}
 use Rattle.wam_machine.specs.declared.state.Host.{Host}

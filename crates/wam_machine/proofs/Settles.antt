@@ -12,7 +12,9 @@ use Rattle.term_builtins.specs.Table.{builtins, place_in}
 use Rattle.wam_machine.specs.Control.{Control, True, Fail, Cut, Repeat, Both, Either, IfElse, If, Not, Call, Once, Catch, Findall, Throw, Halt, HaltWith, Database, Builtin, User, control_of, control_with_none, access_with_one, control_with_one, control_of_either, control_with_two, control_with_three, control_with_more, plain, builtin_or_user}
 use Rattle.wam_machine.specs.declared.run.RunEnd.{RunEnd}
 use Rattle.wam_machine.specs.declared.run.RunEnd.TheVariants.{Exhausted, Ball, Spent}
-use Rattle.wam_machine.specs.Machine.{Next, Do, ConditionEnd, NotEnd, CatchEnd, FindallEnd, Alternative, Clauses, Right, Again, NotMark, CatchMark, FindallMark, Choice, Mode, Going, Failing, Raising, State, Setting, Report, Outcome, Goes, Ends, Unfit, no_more, over, stepping, onwards, height, cut_to, cut_back, bound_further, solving, new_copies, behind_copies, found_at, active_catch, recovering, reaching, reached, caught, trying, repeating, performing, doing, goal_move, answer, back_to, taken, move, Runs, ends, goes, beginning, Misfits, unfit, later, HasTranscript}
+use Rattle.wam_machine.specs.States.{Next, Do, ConditionEnd, NotEnd, CatchEnd, FindallEnd, Alternative, Clauses, Right, Again, NotMark, CatchMark, FindallMark, Choice, Mode, Going, Failing, Raising, State, Setting, Report, Outcome, Goes, Ends, Unfit, no_more, over, stepping, onwards, height, cut_to, cut_back, bound_further, solving}
+use Rattle.wam_machine.specs.Procedures.{trying}
+use Rattle.wam_machine.specs.Machine.{new_copies, behind_copies, found_at, active_catch, recovering, reaching, reached, caught, repeating, performing, doing, goal_move, answer, back_to, taken, move, Runs, ends, goes, beginning, Misfits, unfit, later, HasTranscript}
 use Rattle.wam_machine.proofs.FoundAt.{found-length}
 use Rattle.wam_machine.proofs.Laws.{Keeps, Within, trying-keeps, performing-keeps, move-within}
 

@@ -8,7 +8,7 @@ use Rattle.term_store.specs.declared.cell.Cell.{Cell}
 use Rattle.term_store.specs.declared.cell.Trailed.{Trailed}
 use Rattle.term_store.specs.Terms.{term_of, meaning, HasTerm}
 use Rattle.term_store.specs.Later.{back, CanGoBack}
-use Rattle.wam_machine.specs.Machine.{Next}
+use Rattle.wam_machine.specs.States.{Next}
 use Rattle.wam_machine.specs.declared.terms.Frame.{Frame}
 use Rattle.wam_machine.specs.declared.terms.Choice.{Choice}
 use Rattle.wam_machine.specs.Terms.{Saved, turn_of, goals_at, saved_of, IsKeptTurn, AreFrames, AreChoices}

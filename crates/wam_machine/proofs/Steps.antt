@@ -4,7 +4,7 @@ use Rattle.journal_base.specs.Goals.{Goal}
 use Rattle.journals.specs.Journal.{Journal}
 use Rattle.journal_base.specs.declared.tally.Tally.{Tally}
 use Rattle.prolog_terms.specs.declared.entry.Entry.{Entry}
-use Rattle.wam_machine.specs.Machine.{State, Setting, Outcome, Goes, Deed, looks_in}
+use Rattle.wam_machine.specs.States.{State, Setting, Outcome, Goes, Deed, looks_in}
 use Rattle.wam_machine.specs.Terms.{Left}
 use Rattle.wam_machine.specs.View.{calls, state_of, Works, GoesOn, Does, IsHeldIn}
 use Rattle.wam_machine.specs.declared.run.RunEnd.{RunEnd}

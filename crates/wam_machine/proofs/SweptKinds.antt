@@ -1,5 +1,5 @@
 -- Clauses that are erased within one step: what follows by what was found of the procedure.
-use Rattle.std.proofs.Common.{◌≡◌, ℕ, ◌≤◌, List, [], ◌∷◌, length, take, refl, sym, ap, ◌∙◌, subst, Bool, true, false, Option, Some, None}
+use Rattle.std.proofs.Common.{◌≡◌, ℕ, List, take, refl, sym, ap, ◌∙◌, Bool, true, false, Option, Some, None}
 use Rattle.std.specs.Prelude.{if◌then◌else◌, option_map}
 use Rattle.prolog_terms.specs.Tree.{Tree, atom}
 use Rattle.prolog_terms.specs.Faults.{fault_tree}
@@ -13,18 +13,18 @@ use Rattle.journals.specs.Journal.{Journal, procedure_named}
 use Rattle.journal_base.specs.View.{View, Grows, Looks, Appends, IsSound, InSeen}
 use Rattle.journal_base.specs.Updates.{IsFull}
 use Rattle.wam_machine.specs.Reserved.{is_reserved}
-use Rattle.wam_machine.specs.Machine as spec
-use Rattle.wam_machine.specs.Machine.{State, Setting, Outcome, Goes, taking, raises, no_room, no_change, refusing, retract_all_at, sweep_at, swept_keys, sweeping_named, sweeping_where, sweeping_kind, absent_swept, declaring_swept, declared_as, declared_meanwhile}
+use Rattle.wam_machine.specs.States as spec
+use Rattle.wam_machine.specs.States.{State, Setting, Outcome, Goes, taking, raises, no_room, refusing}
+use Rattle.wam_machine.specs.Procedures.{no_change, retract_all_at, sweep_at, swept_keys, sweeping_named, sweeping_where, sweeping_kind, absent_swept, declaring_swept, declared_as, declared_meanwhile}
 use Rattle.wam_machine.specs.Cursors.{Begins}
 use Rattle.wam_machine.specs.Sweeps.{IsSwept, IsSweep}
 use Rattle.wam_machine.specs.Terms.{IsBuilt, KeepsCells, built}
-use Rattle.wam_machine.specs.View.{setting, IsFronted, IsHostOf, HasOnlyAsked, Asks}
+use Rattle.wam_machine.specs.View.{setting, IsFronted, IsHostOf, Asks}
 use Rattle.wam_machine.specs.declared.state.Host.{Host}
 use Rattle.wam_machine.specs.declared.state.Machine.{Machine}
 use Rattle.wam_machine.specs.declared.state.Mode.TheVariants.{Raising as RaisingBall}
 use Rattle.wam_machine.specs.declared.terms.Terms.{Terms}
-use Rattle.wam_machine.proofs.Begins.{begins_before, seen_in, grows_refl, looks_refl}
-use Rattle.wam_machine.proofs.Fronted.{host_on}
+use Rattle.wam_machine.proofs.Begins.{begins_before, seen_in, grows_refl, looks_refl, host_on}
 use Rattle.wam_machine.proofs.Asked.{IsTaken, taken_front, asks_as, asks_nothing, asks_raised, asks_done, asks_refused, refused_full}
 use Rattle.wam_machine.proofs.AsksOn.{asks_front}
 use Rattle.wam_machine.proofs.Matches.{named_stays}
@@ -94,7 +94,7 @@ module _ {C : Type 0} (v u : View) (h : Host) (old mid : Machine C) (t : IsTaken
       (asks_as u u (λ j s. raises no_room retract_all_at s) (λ j s. declared_meanwhile (setting h old j) i (take u.seen j) s (procedure_named (take u.seen j) i)) mid (record mid { mode = RaisingBall ball })
       (λ j b s.
       ap (declared_meanwhile (setting h old j) i (take u.seen j) s) (seen_in u (λ J. procedure_named J i ≡ None) j absent b)
-      ∙ refused_full h u retract_all_at (Declare i Dynamic) n q g (setting h old j) j s (host_on h v u k l.grows) refl refl full b)
+      ∙ refused_full h u retract_all_at (Declare i Dynamic) n q g (setting h old j) j s (host_on h v u l.grows k) refl refl full b)
       (asks_raised u u mid ball no_room retract_all_at is refl (taken_front u old mid l.grows.sound t)))
 
   pub swept_already : (w : View) (new : Machine C) (p : ℕ) (d : Kind) → Grows u w → Looks v u → InSeen u (λ J. procedure_named J i ≡ Some (p, d)) → Asks u w (λ j s. declared_as i s d) mid new

@@ -1,5 +1,5 @@
 -- The clauses that are left of a call are erased, over any base.
-use Rattle.std.proofs.Common.{◌≡◌, ℕ, ◌+◌, ◌-◌, ◌<◌, ◌≤◌, List, [], ◌∷◌, ◌++◌, length, take, Bool, true, false, refl, sym, ap, ◌∙◌, subst, arith, append-nil, append_assoc, Option, Some, None}
+use Rattle.std.proofs.Common.{◌≡◌, ℕ, ◌+◌, ◌-◌, ◌<◌, ◌≤◌, List, [], ◌++◌, take, Bool, true, false, refl, sym, ap, ◌∙◌, subst, arith, append-nil, append_assoc, Option, Some, None}
 use Rattle.std.specs.Prelude.{IsSome, option_map}
 use Rattle.prolog_terms.specs.Tree.{Tree}
 use Rattle.prolog_terms.specs.declared.entry.Entry.{Entry}
@@ -14,10 +14,11 @@ use Rattle.journal_base.specs.Looks.{CountsVisits, HasRoom, given}
 use Rattle.journal_base.specs.View.{View, Grows, Looks, IsSound, Gives, Out}
 use Rattle.journal_base.specs.declared.tally.Tally.{Tally}
 use Rattle.journals.specs.Journal.{Journal, clause_named}
-use Rattle.wam_machine.specs.Machine.{Setting, Use, Match, ToErase, call_of}
+use Rattle.wam_machine.specs.States.{Setting, Use, Match, ToErase}
+use Rattle.wam_machine.specs.Procedures.{call_of}
 use Rattle.wam_machine.specs.Cursors.{Begins, goal_of, part, names_left, visits_left, AreNamed, IsUsable, MayBeUsed, IsChangeable}
 use Rattle.wam_machine.specs.Sweeps.{IsSwept, Sweeps, SweepsOne, HasOnlySwept}
-use Rattle.wam_machine.specs.Terms.{Left, Said, AreTerms, IsBuilt, KeepsCells, said, built, use_of, call_now}
+use Rattle.wam_machine.specs.Terms.{Said, AreTerms, IsBuilt, KeepsCells, said, built, use_of, call_now}
 use Rattle.wam_machine.specs.View.{setting, IsFronted, Makes}
 use Rattle.wam_machine.specs.declared.state.Host.{Host}
 use Rattle.wam_machine.specs.declared.state.Machine.{Machine}

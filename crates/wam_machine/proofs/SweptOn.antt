@@ -1,6 +1,6 @@
 -- Clauses that are erased one after another: what was done so far, and what is left.
-use Rattle.std.proofs.Common.{◌≡◌, ℕ, ◌+◌, ◌-◌, ◌<◌, ◌≤◌, List, [], ◌∷◌, ◌++◌, length, take, Bool, true, false, refl, sym, ap, ◌∙◌, subst, arith, append-nil, append_assoc, Option, Some, None}
-use Rattle.std.specs.Prelude.{All, IsSome, map, filter_map, option_map, slice_get, unwrap_or}
+use Rattle.std.proofs.Common.{◌≡◌, ℕ, ◌+◌, ◌<◌, ◌≤◌, List, [], ◌∷◌, ◌++◌, length, take, Bool, true, false, refl, sym, ap, ◌∙◌, subst, arith, append-nil, append_assoc, Option, Some, None}
+use Rattle.std.specs.Prelude.{All, map, filter_map, option_map, slice_get, unwrap_or}
 use Rattle.std.specs.List.{cons_option}
 use Rattle.std.proofs.lemmas.List.{map-append, get_or_append_left}
 use Rattle.std.proofs.lemmas.List.Elements.{All-nil, All-cons, All-head, All-tail}
@@ -13,11 +13,12 @@ use Rattle.call_patterns.specs.Keys as keyed
 use Rattle.call_patterns.specs.declared.key.Key.{Key}
 use Rattle.call_patterns.specs.declared.key.Key.TheVariants as key_is
 use Rattle.term_store.specs.Later.{AreLonger}
-use Rattle.term_store.proofs.Laws.{longer-itself, longer-further, longer-length}
+use Rattle.term_store.proofs.Laws.{longer-length}
 use Rattle.journal_base.specs.Goals.{Goal}
 use Rattle.journal_base.specs.declared.tally.Tally.{Tally}
 use Rattle.journals.specs.Journal.{Journal, clause_named}
-use Rattle.wam_machine.specs.Machine.{Setting, Deed, Updated, Candidate, Use, candidate_named, call_of, sweeping}
+use Rattle.wam_machine.specs.States.{Setting, Deed, Updated, Candidate, Use}
+use Rattle.wam_machine.specs.Procedures.{candidate_named, call_of, sweeping}
 use Rattle.wam_machine.specs.Cursors.{part, names_left, clauses_left, visits_left, AreNamed, IsUsable}
 use Rattle.wam_machine.specs.Sweeps.{Sweeps, SweepsOne, HasOnlySwept, where_on}
 use Rattle.wam_machine.specs.Terms.{Left, Said, said}

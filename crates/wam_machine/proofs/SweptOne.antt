@@ -1,12 +1,11 @@
 -- One clause is erased, or passed over.
-use Rattle.std.proofs.Common.{◌≡◌, ℕ, zero, suc, ◌+◌, ◌<◌, ◌≤◌, List, [], ◌∷◌, ◌++◌, length, take, drop, Bool, true, false, refl, sym, ap, ◌∙◌, subst, arith, append-nil, Option, Some, None}
-use Rattle.std.specs.Prelude.{if◌then◌else◌, IsSome, is_some, map, option_map, option_and_then, slice_get}
+use Rattle.std.proofs.Common.{◌≡◌, ℕ, zero, suc, ◌+◌, ◌<◌, ◌≤◌, List, [], ◌∷◌, ◌++◌, length, take, Bool, true, false, refl, sym, ap, ◌∙◌, subst, arith, append-nil, Option, Some, None}
+use Rattle.std.specs.Prelude.{if◌then◌else◌, IsSome, map, option_map, option_and_then, slice_get}
 use Rattle.std.proofs.lemmas.Bool.{false≢true}
 use Rattle.std.proofs.lemmas.List.{take-take}
 use Rattle.std.proofs.lemmas.Option.{slice_get_within}
 use Rattle.prolog_terms.specs.Tree.{Tree}
 use Rattle.prolog_terms.specs.Faults.{fault_tree}
-use Rattle.prolog_terms.specs.Substitutions.{renamed}
 use Rattle.prolog_terms.specs.declared.entry.Clause.{Clause}
 use Rattle.prolog_terms.specs.declared.entry.Entry.{Entry}
 use Rattle.prolog_terms.specs.declared.entry.Indicator.{Indicator}
@@ -14,13 +13,13 @@ use Rattle.prolog_terms.specs.declared.entry.Kind.{Kind}
 use Rattle.prolog_terms.specs.declared.entry.What.{What}
 use Rattle.prolog_terms.specs.declared.entry.What.TheVariants.{Declare, Add, Erase}
 use Rattle.term_store.specs.declared.cell.Cell.{Cell}
-use Rattle.term_unifier.specs.Unifier.{unifier}
 use Rattle.journals.specs.Journal.{Journal, added, clause_named, procedures, procedure_of}
 use Rattle.journal_base.specs.Goals.{Goal}
 use Rattle.journal_base.specs.Legal.{MayChange, MayFollow}
 use Rattle.journal_base.specs.View.{View, IsSound}
-use Rattle.wam_machine.specs.Machine as spec
-use Rattle.wam_machine.specs.Machine.{State, Setting, Outcome, Goes, Deed, Updated, Candidate, no_room, erasing, sweep_at, sweeping, is_swept, one_tried}
+use Rattle.wam_machine.specs.States as spec
+use Rattle.wam_machine.specs.States.{State, Setting, Outcome, Goes, Deed, Updated, Candidate, no_room, erasing}
+use Rattle.wam_machine.specs.Procedures.{sweep_at, sweeping, is_swept, one_tried}
 use Rattle.wam_machine.specs.Cursors.{Begins, IsChangeable}
 use Rattle.wam_machine.specs.Sweeps.{IsMeant, SweepsOne, HasSwept, where_on}
 use Rattle.wam_machine.specs.Terms.{Said, said, built}

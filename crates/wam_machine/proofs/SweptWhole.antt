@@ -13,11 +13,12 @@ use Rattle.journal_base.specs.declared.cause.How.TheVariants.{Indexed, Scanned}
 use Rattle.journal_base.specs.declared.cause.Cause.{Cause}
 use Rattle.journal_base.specs.declared.cause.Cause.TheVariants.{Plain, Few, Crowded, Claimed, Barred, NoPlace, Passed, NoMemory, Built}
 use Rattle.journal_base.specs.declared.tally.Tally.{Tally}
-use Rattle.wam_machine.specs.Machine.{State, Outcome, Goes, Setting, Look, Deed, Looked, Updated, Candidate, taking, sweeping, swept_keys, candidate_clauses, looks_in}
-use Rattle.wam_machine.specs.Cursors.{IsOpened, AreNamed, goal_of, clauses_left, visits_left}
+use Rattle.wam_machine.specs.States.{State, Outcome, Goes, Setting, Look, Deed, Looked, Updated, Candidate, taking}
+use Rattle.wam_machine.specs.Procedures.{sweeping, swept_keys, candidate_clauses}
+use Rattle.wam_machine.specs.Cursors.{IsOpened, AreNamed, goal_of, clauses_left}
 use Rattle.wam_machine.specs.Sweeps.{IsSweep, Sweeps}
-use Rattle.wam_machine.specs.Terms.{Left, Said, said}
-use Rattle.wam_machine.specs.View.{mode_of, state_of, calls, all_visits, aheads, Works, GoesOn, IsHeldIn}
+use Rattle.wam_machine.specs.Terms.{Left, said}
+use Rattle.wam_machine.specs.View.{state_of, calls, all_visits, aheads, Works, GoesOn, IsHeldIn}
 use Rattle.wam_machine.specs.declared.state.Machine.{Machine}
 use Rattle.wam_machine.proofs.Asked.{front_taken}
 use Rattle.wam_machine.proofs.AskedMoves.{no_looks, all_made}
@@ -46,7 +47,7 @@ plain_cause (Built m) h = absurd (omega (arith, h))
 
 -- where `Plain` alone may come, each look scans for it
 only_plain : (how : How) → TellsOnly (0 ∷ []) how → how ≡ Scanned Plain
-only_plain (Indexed mark covered age late kept) h = absurd (h.0 refl)
+only_plain (Indexed by) h = absurd (h.0 refl)
 only_plain (Scanned c) h = plain_cause c (no_cause c h.1)
 
 module _ {C : Type 0} (rest : C → Goal → Journal → List ℕ) (may : C → Goal → Journal → ℕ) (at : C → ℕ) (ahead : C → ℕ) (causes : List ℕ) (made : List Entry) where

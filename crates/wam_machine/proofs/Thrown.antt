@@ -9,7 +9,8 @@ use Rattle.term_store.specs.declared.cell.View.TheVariants as view
 use Rattle.term_store.specs.Terms.{raw, HasTerm, AreNamed}
 use Rattle.term_store.specs.Views.{tree_of}
 use Rattle.wam_machine.specs.Balls.{IsThrown, IsCode}
-use Rattle.wam_machine.specs.Machine.{State, throwing, raise_it}
+use Rattle.wam_machine.specs.States.{State}
+use Rattle.wam_machine.specs.Machine.{throwing, raise_it}
 use Rattle.wam_machine.specs.declared.balls.Thrown.TheVariants as is
 use Rattle.wam_machine.specs.declared.balls.Code.TheVariants as code
 use Rattle.wam_machine.specs.declared.terms.Terms.{Terms}

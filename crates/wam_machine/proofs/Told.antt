@@ -10,8 +10,8 @@ use Rattle.term_store.specs.declared.cell.Cell.{Cell}
 use Rattle.term_store.specs.Shape.{Shape}
 use Rattle.term_store.specs.Terms.{term_of, meaning, HasTerm, AreNamed}
 use Rattle.term_store.specs.Later.{AreDistinct, back}
-use Rattle.wam_machine.specs.Machine as spec
-use Rattle.wam_machine.specs.Machine.{Next, Do, FindallEnd, next_under}
+use Rattle.wam_machine.specs.States as spec
+use Rattle.wam_machine.specs.States.{Next, Do, FindallEnd, next_under}
 use Rattle.wam_machine.specs.declared.terms.Alternative.{Alternative}
 use Rattle.wam_machine.specs.declared.terms.Alternative.TheVariants as is
 use Rattle.wam_machine.specs.declared.terms.Choice.{Choice}

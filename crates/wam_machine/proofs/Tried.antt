@@ -4,7 +4,7 @@ use Rattle.std.specs.Prelude.{if◌then◌else◌, All, IsSome, filter_map, opti
 use Rattle.std.specs.List.{cons_option}
 use Rattle.std.proofs.lemmas.Bool.{false≢true}
 use Rattle.std.proofs.lemmas.List.{length-append}
-use Rattle.std.proofs.lemmas.List.Elements.{All-head, All-tail, All-push, All-weaker, filter_map-append}
+use Rattle.std.proofs.lemmas.List.Elements.{All-head, All-tail, All-push, All-weaker}
 use Rattle.std.proofs.lemmas.List.Sums.{sum_by_push}
 use Rattle.prolog_terms.specs.Tree.{Tree}
 use Rattle.prolog_terms.specs.Substitutions.{renamed}
@@ -17,9 +17,10 @@ use Rattle.journal_base.specs.View.{has_more}
 use Rattle.journal_base.specs.declared.tally.Tally.{Tally}
 use Rattle.term_store.specs.declared.cell.Cell.{Cell}
 use Rattle.term_unifier.specs.Unifier.{unifier}
-use Rattle.wam_machine.specs.Machine as spec
-use Rattle.wam_machine.specs.Machine.{State, Setting, Outcome, Goes, Clauses, Candidate, Look, Deed, Updated, Next, numbering, entering, meeting, leaving, trying, candidate_named, side_of_clause, side_of_call, first_goals, newest}
-use Rattle.wam_machine.specs.Terms.{Left, OfCall, Saved, Said, AreTerms, IsBuilt, IsOfUse, IsOfCall, KeepsCells, said, built, use_of, purpose_of, call_in, calls_in, call_now, saved_now, IsSolved, IsEntered}
+use Rattle.wam_machine.specs.States as spec
+use Rattle.wam_machine.specs.States.{State, Setting, Outcome, Goes, Clauses, Candidate, Look, Deed, Updated, Next}
+use Rattle.wam_machine.specs.Procedures.{numbering, entering, meeting, leaving, trying, candidate_named, side_of_clause, side_of_call, first_goals}
+use Rattle.wam_machine.specs.Terms.{Left, OfCall, Saved, Said, AreTerms, IsBuilt, IsOfUse, IsOfCall, KeepsCells, said, built, use_of, purpose_of, calls_in, call_now, saved_now, IsSolved, IsEntered}
 use Rattle.wam_machine.specs.Cursors.{part, names_left, clauses_left, visits_left, IsUsable, AreNamed}
 use Rattle.wam_machine.specs.View.{mode_of, choice_of, stack_of, state_with, state_of, all_visits, aheads, Spends, Attempts, HasOnlyAsked, IsPushed, KeepsCounts, where_met, calls}
 use Rattle.wam_machine.specs.declared.run.Event.{Event}
@@ -33,11 +34,9 @@ use Rattle.wam_machine.specs.declared.terms.Use.TheVariants as use_is
 use Rattle.wam_machine.specs.declared.terms.Terms.{Terms}
 use Rattle.wam_machine.proofs.Heights.{newest-append, newest-length}
 use Rattle.wam_machine.proofs.Kept.{all_front, all_last}
+use Rattle.wam_machine.proofs.Acted.{calls-push}
 
 -- ---- a call that is left
-
-calls-more : {C : Type 0} (ss : List (Saved C)) (s : Saved C) → calls_in (ss ++ s ∷ []) ≡ calls_in ss ++ calls_in (s ∷ [])
-calls-more ss s = filter_map-append (λ x. call_in x.turn) ss (s ∷ [])
 
 module _ {C : Type 0} (old mid : Terms C) (cells : KeepsCells old mid) where
   -- what a call does with its clauses is the same where its cells stand for what they stood for
@@ -78,7 +77,7 @@ module _ {C : Type 0} (old mid : Terms C) (call : Call C) (unsaid : said mid ≡
 
   pub calls-left : (new : Terms C) → said new ≡ record (said mid) { stack = (said mid).stack ++ saved_now mid (is.Clauses call) ∷ [] }
       → calls_in (said new).stack ≡ calls_in (said old).stack ++ call_now old call ∷ []
-  calls-left new left = ap calls_in (stack-left new left) ∙ calls-more (said old).stack (saved_now old (is.Clauses call))
+  calls-left new left = ap calls_in (stack-left new left) ∙ calls-push (said old).stack (saved_now old (is.Clauses call))
 
   pub said-left : (new : Terms C) → said new ≡ record (said mid) { stack = (said mid).stack ++ saved_now mid (is.Clauses call) ∷ [] }
       → said new ≡ record (said old) { stack = (said new).stack }

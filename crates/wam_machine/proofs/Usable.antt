@@ -19,7 +19,7 @@ use Rattle.call_patterns.specs.Candidates.{candidates, head_agrees}
 use Rattle.journals.specs.Numbers.{numbers_from}
 use Rattle.journals.specs.Journal.{Journal, declaration, procedures, procedure_of, clause_named, adds_to, adds_at, same_end, additions, chain, alive, is_erased}
 use Rattle.journal_base.specs.Legal.{MayChange}
-use Rattle.wam_machine.specs.Machine.{Use, Enter, Match, Purpose, ToShow, ToErase}
+use Rattle.wam_machine.specs.States.{Use, Enter, Match, Purpose, ToShow, ToErase}
 use Rattle.wam_machine.specs.Cursors.{IsDynamic, IsFor, IsOpenTo, IsChangeable, MayServe, MayBeUsed, IsUsable}
 use Rattle.wam_machine.proofs.Named.{candidates_named}
 

@@ -1,5 +1,5 @@
 -- A clause that may be used when a call looks may be used later.
-use Rattle.std.proofs.Common.{◌≡◌, ℕ, zero, suc, ◌+◌, ◌≤◌, ◌<◌, List, [], ◌∷◌, ◌++◌, length, take, drop, min, Option, Some, None, refl, sym, ap, ◌∙◌, subst, arith}
+use Rattle.std.proofs.Common.{◌≡◌, ℕ, zero, suc, ◌≤◌, ◌<◌, List, [], ◌∷◌, ◌++◌, length, take, drop, min, Option, Some, None, refl, sym, ap, ◌∙◌, subst, arith}
 use Rattle.std.specs.Prelude.{IsSome, is_some, slice_get, option_and_then}
 use Rattle.std.proofs.lemmas.List.{length-take, take-take, take-append-drop}
 use Rattle.std.proofs.lemmas.Option.{slice_get_within}
@@ -15,7 +15,7 @@ use Rattle.journals.specs.Journal.{Journal, procedures, procedure_of, clause_nam
 use Rattle.journal_base.specs.Legal.{MayChange, MayChangeClause, MayFollow}
 use Rattle.journal_base.specs.View.{View, IsSound}
 use Rattle.term_store.specs.declared.cell.Cell.{Cell}
-use Rattle.wam_machine.specs.Machine.{Use, Enter, Match, Purpose, ToShow, ToErase}
+use Rattle.wam_machine.specs.States.{Use, Enter, Match, Purpose, ToShow, ToErase}
 use Rattle.wam_machine.specs.Cursors.{Begins, IsChangeable, MayServe, MayBeUsed, IsUsable}
 use Rattle.wam_machine.specs.Terms.{use_of}
 use Rattle.wam_machine.specs.declared.terms.Use.{Use as Used}

@@ -21,7 +21,10 @@ use Rattle.term_builtins.specs.Table.{builtins, place_in}
 use Rattle.wam_machine.specs.Control.{Access, Inspect, Control, True, Fail, Cut, Repeat, Both, Either, IfElse, If, Not, Call, Once, Catch, Findall, Throw, Halt, HaltWith, Database, Builtin, User, control_of, control_with_none, access_with_one, control_with_one, control_of_either, control_with_two, control_with_three, control_with_more, or_call, first_body, with_added, is_true_atom, builtin_or_user, plain}
 use Rattle.wam_machine.specs.declared.run.RunEnd.{RunEnd}
 use Rattle.wam_machine.specs.declared.run.RunEnd.TheVariants.{Exhausted, Ball, Spent, Halted}
-use Rattle.wam_machine.specs.Machine.{Use, Enter, Match, Candidate, Next, Do, ConditionEnd, NotEnd, CatchEnd, FindallEnd, Alternative, Clauses, Right, Again, NotMark, CatchMark, FindallMark, Choice, Mode, Going, Failing, Raising, State, Setting, Outcome, Goes, Ends, Unfit, no_more, over, stepping, onwards, pushed, height, next_under, solving, numbering, body_from, side_of_clause, side_of_call, first_goals, entering, leaving, trying, candidate_named, candidate_clauses, calling, call_with, raises, running, calling_added, denying, catching, gathering, gathered, new_copies, behind_copies, throwing, halting, cut_back, active_catch, recovering, reaching, reached, caught, repeating, performing, doing, going, back_to, taken, failing, raising, move, beginning, CanBeDone, HasBody, CanBeTaken, CanGoBack, IsWellMade, HasBodies, GoalsAreBodies, coming_to, calling_builtin, accessing}
+use Rattle.wam_machine.specs.States.{Use, Enter, Match, Candidate, Next, Do, ConditionEnd, NotEnd, CatchEnd, FindallEnd, Alternative, Clauses, Right, Again, NotMark, CatchMark, FindallMark, Choice, Mode, Going, Failing, Raising, State, Setting, Outcome, Goes, Ends, Unfit, no_more, over, stepping, onwards, pushed, height, next_under, solving, raises, cut_back}
+use Rattle.wam_machine.specs.Procedures.{numbering, body_from, side_of_clause, side_of_call, first_goals, entering, leaving, trying, candidate_named, candidate_clauses, calling, accessing}
+use Rattle.wam_machine.specs.Machine.{call_with, running, calling_added, denying, catching, gathering, gathered, new_copies, behind_copies, throwing, halting, active_catch, recovering, reaching, reached, caught, repeating, performing, doing, going, back_to, taken, failing, raising, move, beginning, coming_to, calling_builtin}
+use Rattle.wam_machine.specs.Laws.{CanBeDone, HasBody, CanBeTaken, CanGoBack, IsWellMade, HasBodies, GoalsAreBodies}
 use Rattle.wam_machine.proofs.FoundAt.{found-back}
 use Rattle.wam_machine.proofs.Lasting.{IsNear, meeting-lasts, calling-lasts, accessing-lasts}
 use Rattle.prolog_terms.proofs.Converted.{both_true, first_true, second_true, is_converted}

@@ -4,7 +4,8 @@ use Rattle.prolog_terms.specs.Tree.{Tree}
 use Rattle.prolog_terms.specs.declared.fault.Fault.TheVariants.{Instantiation}
 use Rattle.prolog_terms.specs.declared.entry.Indicator.{Indicator}
 use Rattle.std.specs.Prelude.{codes}
-use Rattle.wam_machine.specs.Machine.{Setting, State, throwing, raise_it, raises, halting, halt_with, not_integer, over}
+use Rattle.wam_machine.specs.States.{Setting, State, raises, over}
+use Rattle.wam_machine.specs.Machine.{throwing, raise_it, halting, halt_with, not_integer}
 use Rattle.wam_machine.specs.declared.run.RunEnd.TheVariants.{Halted}
 use Rattle.wam_machine.specs.declared.balls.Thrown.{Thrown}
 use Rattle.wam_machine.specs.declared.balls.Thrown.TheVariants as is

@@ -10,7 +10,8 @@ use Rattle.journal_base.specs.Looks.{allowance, most_raised}
 use Rattle.journal_base.specs.View.{View}
 use Rattle.journal_base.specs.declared.cause.How.{How}
 use Rattle.journal_base.specs.declared.tally.Tally.{Tally}
-use Rattle.wam_machine.specs.Machine.{Use, Enter, Match, Purpose, ToShow, ToErase, Candidate, call_of, candidate_named, candidate_clauses}
+use Rattle.wam_machine.specs.States.{Use, Enter, Match, Purpose, ToShow, ToErase, Candidate}
+use Rattle.wam_machine.specs.Procedures.{call_of, candidate_named, candidate_clauses}
 use Rattle.wam_machine.specs.Runs.{IsFairLook}
 use Rattle.wam_machine.specs.Terms.{Left}
 

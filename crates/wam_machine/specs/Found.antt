@@ -1,7 +1,9 @@
 -- Findalls have their marks, where an answer of their goal is found.
 use Rattle.std.specs.Prelude.{◌≡◌, ℕ, suc, Bool, true, false, List, ◌∷◌, length}
 use Rattle.prolog_terms.specs.Tree.{Tree}
-use Rattle.wam_machine.specs.Machine.{Next, FindallEnd, Alternative, Clauses, Right, Again, NotMark, CatchMark, FindallMark, Choice, State, Setting, Going, Reaches, beginning, cut_to}
+use Rattle.wam_machine.specs.States.{Next, FindallEnd, Alternative, Clauses, Right, Again, NotMark, CatchMark, FindallMark, Choice, State, Setting, Going, cut_to}
+use Rattle.wam_machine.specs.Machine.{beginning}
+use Rattle.wam_machine.specs.Laws.{Reaches}
 
 abbrev pub is_findall : Alternative → Bool
 is_findall (FindallMark list found) = true

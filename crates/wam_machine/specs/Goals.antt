@@ -10,7 +10,8 @@ use Rattle.term_builtins.specs.Table.{builtins}
 use Rattle.wam_machine.specs.Control as spec
 use Rattle.wam_machine.specs.Control.{control_of, control_of_either, plain, access_with_one}
 use Rattle.wam_machine.specs.Spine.{Part, Leaf, Joint, is_plain_goal}
-use Rattle.wam_machine.specs.Machine.{State, calling_added, raises, running, call_with}
+use Rattle.wam_machine.specs.States.{State, raises}
+use Rattle.wam_machine.specs.Machine.{calling_added, running, call_with}
 use Rattle.wam_machine.specs.Terms.{IsGoal, IsBuilt, built}
 use Rattle.wam_machine.specs.declared.control.Access.{Access}
 use Rattle.wam_machine.specs.declared.control.Access.TheVariants.{Assert, Inspect, Retract, RetractAll, Abolish}

@@ -5,7 +5,8 @@ use Rattle.prolog_terms.specs.declared.entry.Indicator.{Indicator}
 use Rattle.prolog_terms.specs.declared.fault.Fault.TheVariants.{Instantiation}
 use Rattle.prolog_clauses.specs.Formed.{Parts, parts_of, rule, fact}
 use Rattle.term_store.specs.declared.cell.Cell.{Cell}
-use Rattle.wam_machine.specs.Machine.{State, Outcome, headed, unless_integer, raises, not_callable}
+use Rattle.wam_machine.specs.States.{State, Outcome, raises, not_callable}
+use Rattle.wam_machine.specs.Procedures.{headed, unless_integer}
 use Rattle.wam_machine.specs.Terms.{IsBuilt, built}
 use Rattle.wam_machine.specs.declared.matching.Head.{Head}
 use Rattle.wam_machine.specs.declared.matching.Head.TheVariants as is

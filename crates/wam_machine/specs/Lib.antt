@@ -3,7 +3,10 @@ pub mod Reserved
 pub mod Defined
 pub mod Spine
 pub mod Naming
+pub mod States
+pub mod Procedures
 pub mod Machine
+pub mod Laws
 pub mod Runs
 pub mod Terms
 pub mod Called

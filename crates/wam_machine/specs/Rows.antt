@@ -12,7 +12,8 @@ use Rattle.prolog_terms.specs.declared.entry.What.TheVariants.{Declare, Add, Era
 use Rattle.prolog_terms.specs.declared.fault.Fault.{Fault}
 use Rattle.prolog_terms.specs.declared.fault.Fault.TheVariants.{Instantiation, OfType, Existence, Representation, Permission, Resource}
 use Rattle.journals.specs.Journal.{Journal}
-use Rattle.wam_machine.specs.Machine.{Setting, Deed, Transcript, Misfits, beginning}
+use Rattle.wam_machine.specs.States.{Setting, Deed}
+use Rattle.wam_machine.specs.Machine.{Transcript, Misfits, beginning}
 use Rattle.wam_machine.specs.declared.run.Event.{Event}
 use Rattle.wam_machine.specs.declared.run.Event.TheVariants.{Answer}
 use Rattle.wam_machine.specs.declared.run.RunEnd.{RunEnd}

@@ -11,7 +11,8 @@ use Rattle.journal_base.specs.declared.cause.How.{How}
 use Rattle.wam_machine.specs.declared.run.Goal.{Goal}
 use Rattle.wam_machine.specs.declared.run.Run.{Run}
 use Rattle.wam_machine.specs.declared.run.RunEnd.TheVariants.{Want}
-use Rattle.wam_machine.specs.Machine.{Setting, Look, Deed, looks_in, Report, Transcript, shown_list}
+use Rattle.wam_machine.specs.States.{Setting, Look, Deed, looks_in, Report}
+use Rattle.wam_machine.specs.Machine.{Transcript, shown_list}
 
 abbrev pub report_of : Run → List Deed → ℕ → Report
 report_of run deeds tried = record { events = run.transcript; deeds = deeds; tried = tried; steps = run.steps; end = run.end }

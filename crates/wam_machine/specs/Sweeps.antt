@@ -7,7 +7,8 @@ use Rattle.journal_base.specs.Goals.{Goal}
 use Rattle.journals.specs.Journal.{Journal, clause_named}
 use Rattle.journal_base.specs.View.{View}
 use Rattle.term_store.specs.declared.cell.Cell.{Cell}
-use Rattle.wam_machine.specs.Machine.{State, Setting, Outcome, Goes, Deed, Updated, Candidate, erasing, sweep_at, sweeping, sweeping_all}
+use Rattle.wam_machine.specs.States.{State, Setting, Outcome, Goes, Deed, Updated, Candidate, erasing}
+use Rattle.wam_machine.specs.Procedures.{sweep_at, sweeping, sweeping_all}
 use Rattle.wam_machine.specs.Cursors.{Begins, clauses_left, visits_left}
 use Rattle.wam_machine.specs.Terms.{Left, Said, IsCompared}
 use Rattle.wam_machine.specs.View.{setting, state_of, IsFronted}

@@ -10,8 +10,9 @@ use Rattle.term_store.specs.Terms.{raw, meaning, term_of, HasTerm, AreNamed}
 use Rattle.term_store.specs.Later.{back, CanGoBack, AreDistinct, AreLonger}
 use Rattle.term_store.specs.declared.cell.Cell.{Cell}
 use Rattle.term_unifier.specs.Unifier.{unifier}
-use Rattle.wam_machine.specs.Machine as spec
-use Rattle.wam_machine.specs.Machine.{Next, Do, ConditionEnd, NotEnd, CatchEnd, FindallEnd, next_under, side_of_clause, side_of_call, first_goals}
+use Rattle.wam_machine.specs.States as spec
+use Rattle.wam_machine.specs.States.{Next, Do, ConditionEnd, NotEnd, CatchEnd, FindallEnd, next_under}
+use Rattle.wam_machine.specs.Procedures.{side_of_clause, side_of_call, first_goals}
 use Rattle.wam_machine.specs.declared.terms.Alternative.{Alternative}
 use Rattle.wam_machine.specs.declared.terms.Alternative.TheVariants as is
 use Rattle.wam_machine.specs.declared.terms.Call.{Call}

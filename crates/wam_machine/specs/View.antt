@@ -1,5 +1,5 @@
 -- What the engine keeps, as a state of the machine, over a journal.
-use Rattle.std.specs.Prelude.{◌≡◌, ℕ, ◌+◌, ◌*◌, ◌≤◌, ◌⊎◌, List, [], ◌∷◌, ◌++◌, length, All, Option, Some, MatchOption, map, take, Bool, true, false, IsTrue}
+use Rattle.std.specs.Prelude.{◌≡◌, ℕ, ◌+◌, ◌*◌, ◌≤◌, ◌⊎◌, List, [], ◌∷◌, ◌++◌, length, All, Option, Some, MatchOption, map, take, Bool, true, false}
 use Rattle.std.specs.List.{sum_by, AllZip}
 use Rattle.prolog_terms.specs.Tree.{Tree, variable}
 use Rattle.prolog_terms.specs.Substitutions.{beyond}
@@ -10,14 +10,16 @@ use Rattle.journals.specs.Journal.{Journal, clause_named}
 use Rattle.journal_base.specs.Looks.{most_raised, scans_of, kept_of, wants_of}
 use Rattle.prolog_terms.specs.declared.entry.Entry.{Entry}
 use Rattle.prolog_terms.specs.declared.entry.Indicator.{Indicator}
-use Rattle.prolog_terms.specs.declared.entry.What.{What}
-use Rattle.journal_base.specs.View.{View, Grows, IsSound, Out, none_out, opened, entries_by}
+use Rattle.journal_base.specs.View.{View, IsSound, Out, none_out, opened, entries_by}
 use Rattle.journal_base.specs.declared.cause.How.{How}
 use Rattle.journal_base.specs.declared.tally.Tally.{Tally}
 use Rattle.wam_machine.specs.Terms.{Left, Turn, OfCall, OfRight, OfRepeat, OfNot, OfCatch, OfFindall, Saved, Said, AreTerms, said, calls_in}
 use Rattle.wam_machine.specs.Cursors.{Begins, goal_of, part, clauses_left, visits_left, AreNamed}
-use Rattle.wam_machine.specs.Machine as spec
-use Rattle.wam_machine.specs.Machine.{State, Setting, Outcome, Goes, Ends, Look, Deed, Updated, Next, Do, Clauses, Right, Again, NotMark, CatchMark, FindallMark, Going, Failing, Raising, move, goal_move, Candidate, searching, trying, using, onwards, repeating, fails, raises, no_room, erasing, gathered, looks_in, made_in, Report, Runs, beginning, shown_list, newest}
+use Rattle.wam_machine.specs.States as spec
+use Rattle.wam_machine.specs.States.{State, Setting, Outcome, Goes, Ends, Look, Deed, Updated, Next, Do, Clauses, Right, Again, NotMark, CatchMark, FindallMark, Going, Failing, Raising, Candidate, onwards, fails, raises, no_room, erasing, looks_in, made_in, Report}
+use Rattle.wam_machine.specs.Procedures.{searching, trying, using}
+use Rattle.wam_machine.specs.Machine.{goal_move, repeating, gathered, Runs, beginning, shown_list}
+use Rattle.wam_machine.specs.Laws.{newest}
 use Rattle.wam_machine.specs.Control.{control_of, first_body}
 use Rattle.wam_machine.specs.Runs.{IsFairLook, allowances}
 use Rattle.wam_machine.specs.declared.run.Event.{Event}

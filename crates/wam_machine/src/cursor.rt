@@ -130,6 +130,7 @@ pub(crate) fn fetch<B: Base>(
     ensures clause { IfOk result (λ c. (j : Journal) → Begins (B.view base.new) j → clause_named (take (B.looked_at call.now.cursor) j) name ≡ Some c) }
     ensures body { IfOk result IsClause }
 {
+    // The contract speaks of it.
     let _call = call;
     base.fetch(name)
 }

@@ -4,7 +4,8 @@ ghost use Rattle.journal_base.specs.Goals.{Goal};
 ghost use Rattle.journals.specs.Journal.{Journal};
 ghost use Rattle.journal_base.specs.View.{IsSound, Looks, opened};
 ghost use Rattle.wam_machine.specs.Cursors.{Begins};
-ghost use Rattle.wam_machine.specs.Machine.{Goes, cut_back as cut_back_to, leaving_catch, fails};
+ghost use Rattle.wam_machine.specs.States.{Goes, cut_back as cut_back_to, fails};
+ghost use Rattle.wam_machine.specs.Machine.{leaving_catch};
 ghost use Rattle.wam_machine.specs.Terms.{AreTerms, said, calls_in};
 ghost use Rattle.wam_machine.specs.View.{AreKept, IsReady, IsLeft, GoesOn, calls};
 
@@ -62,6 +63,7 @@ pub(crate) fn cut_stack<B: Base>(
     ensures left { IsLeft host.now.budget (B.view base.new) machine.old machine.new }
     ensures goes { (j : Journal) → Begins (B.view base.new) j → GoesOn B.rest B.may_visit B.looked_at B.ahead (B.view base.new).causes [] (λ s. Goes (cut_back_to height s)) j machine.old machine.new }
 {
+    // The contract speaks of it.
     let _host = host;
     cut_back(base, &mut machine.terms, height);
 }

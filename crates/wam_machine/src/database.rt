@@ -8,7 +8,8 @@ ghost use Rattle.prolog_terms.specs.declared.entry.Kind.TheVariants.{Dynamic};
 ghost use Rattle.journal_base.specs.Goals.{Goal};
 ghost use Rattle.journals.specs.Journal.{Journal, procedure_named, clause_named};
 ghost use Rattle.journal_base.specs.View.{Grows, Looks, IsSound};
-ghost use Rattle.wam_machine.specs.Machine.{asserting, accessing, adding_clause, adding_named, adding_to, adding, declaring, assert_at, no_change, no_room, serving, ToErase};
+ghost use Rattle.wam_machine.specs.States.{no_room, ToErase};
+ghost use Rattle.wam_machine.specs.Procedures.{asserting, accessing, adding_clause, adding_named, adding_to, adding, declaring, assert_at, no_change, serving};
 ghost use Rattle.wam_machine.specs.Goals.{IsAccess, access_in};
 ghost use Rattle.wam_machine.specs.Terms.{AreTerms, IsBuilt, built};
 ghost use Rattle.wam_machine.specs.Cursors.{Begins, IsChangeable};
@@ -103,7 +104,6 @@ fn assert<B: Base, R: Wait>(
         Formed::Refused(fault) => {
             let at = assert_indicator(host.alloc, end)?;
             machine.mode = Mode::Raising(fault_term(host.alloc, &fault, &at)?);
-            let _front = base.front();
             Ok(())
         }
     }
@@ -134,7 +134,6 @@ fn add_clause<B: Base, R: Wait>(
         Some(indicator) => {
             if is_reserved(&indicator) {
                 machine.mode = Mode::Raising(unchangeable(host.alloc, &indicator, end)?);
-                let _front = base.front();
                 return Ok(());
             }
             let addition = Addition {
@@ -243,7 +242,6 @@ fn add_to<B: Base, R: Wait>(
                 addition.indicator,
                 addition.end,
             )?);
-            let _front = base.front();
             Ok(())
         }
         Kind::Dynamic => add(base, machine, host, addition, procedure, rt),
@@ -306,6 +304,7 @@ pub(crate) fn ask_erasure<B: Base, R: Wait>(
     ensures same { HasOnlyAsked machine.old machine.new }
     ensures erases { IfOk result (Erases host.now (B.view base.old) (B.view base.new) clause machine.old machine.new) }
 {
+    // The contract speaks of it.
     let _host = host;
     match base.erase(rt, clause) {
         Erased::Done => {

@@ -6,7 +6,7 @@ ghost use Rattle.term_unifier.specs.Unifier.{unifier};
 ghost use Rattle.term_store.specs.Terms.{AreNamed};
 ghost use Rattle.term_store.specs.Later.{IsLater, AreDistinct, AreLonger};
 ghost use Rattle.wam_machine.specs.Control.{is_true_atom, body_goals};
-ghost use Rattle.wam_machine.specs.Machine.{Do};
+ghost use Rattle.wam_machine.specs.States.{Do};
 ghost use Rattle.wam_machine.specs.Terms.{AreTerms, IsBuilt, IsOfUse, KeepsBound, KeepsCells, said, built, use_of, AreEquated, IsEntered, IsCompared};
 
 use crate::goals::push_next;

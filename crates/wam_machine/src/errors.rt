@@ -4,7 +4,9 @@ ghost use Rattle.prolog_terms.specs.Flat.{nodes as nodes_of};
 ghost use Rattle.prolog_terms.specs.declared.node.Node.TheVariants.{Atom, Functor};
 ghost use Rattle.prolog_terms.specs.Faults.{fault_tree, indicator_tree};
 ghost use Rattle.prolog_terms.specs.declared.fault.Fault.TheVariants.{Existence, Instantiation, Permission, Representation};
-ghost use Rattle.wam_machine.specs.Machine.{not_callable, not_integer, halt_with, assert_at, clause_at, retract_at, retract_all_at, abolish_at, no_access, no_change, no_room};
+ghost use Rattle.wam_machine.specs.States.{not_callable, no_room};
+ghost use Rattle.wam_machine.specs.Procedures.{assert_at, clause_at, retract_at, retract_all_at, abolish_at, no_access, no_change};
+ghost use Rattle.wam_machine.specs.Machine.{not_integer, halt_with};
 ghost use Rattle.wam_machine.specs.Terms.{AreTerms, IsBuilt, built};
 
 use crate::terms::Terms;
@@ -173,20 +175,21 @@ fn indicator_term(alloc: Global, indicator: &Indicator) -> Result<Term, Want>
     Ok(Term::from_prefix(nodes))
 }
 
-/// The error that a call may not do this to what is of a kind, the procedure of this name and arity.
-fn refusal(
-    alloc: Global,
-    action: &[u8],
-    kind: &[u8],
-    indicator: &Indicator,
-    at: &Indicator,
-) -> Result<Term, Want>
-    ensures { IfOk result (λ t. t ≡ fault_tree (Permission action.now kind.now (indicator_tree indicator.now)) at.now) }
+/// The fault that this may not be done to what is of a kind, the procedure of this name and arity.
+fn refused(alloc: Global, action: &[u8], kind: &[u8], indicator: &Indicator) -> Result<Fault, Want>
+    ensures { IfOk result (λ f. f ≡ Permission action.now kind.now (indicator_tree indicator.now)) }
 {
     let action = Name::of(alloc, action)?;
     let kind = Name::of(alloc, kind)?;
     let culprit = indicator_term(alloc, indicator)?;
-    fault_term(alloc, &Fault::Permission(action, kind, culprit), at)
+    Ok(Fault::Permission(action, kind, culprit))
+}
+
+/// The fault that the procedure of this name and arity may not be changed.
+pub fn no_change(alloc: Global, indicator: &Indicator) -> Result<Fault, Want>
+    ensures { IfOk result (λ f. f ≡ no_change indicator.now) }
+{
+    refused(alloc, b"modify", b"static_procedure", indicator)
 }
 
 /// The error that a call may not change the procedure of this name and arity.
@@ -197,14 +200,16 @@ pub(crate) fn unchangeable_at(
 ) -> Result<Term, Want>
     ensures { IfOk result (λ t. t ≡ fault_tree (no_change indicator.now) at.now) }
 {
-    refusal(alloc, b"modify", b"static_procedure", indicator, at)
+    let fault = no_change(alloc, indicator)?;
+    fault_term(alloc, &fault, at)
 }
 
 /// The error that a call may not see the clauses of the procedure of this name and arity.
 pub(crate) fn unseen_at(alloc: Global, indicator: &Indicator, at: &Indicator) -> Result<Term, Want>
     ensures { IfOk result (λ t. t ≡ fault_tree (no_access indicator.now) at.now) }
 {
-    refusal(alloc, b"access", b"private_procedure", indicator, at)
+    let fault = refused(alloc, b"access", b"private_procedure", indicator)?;
+    fault_term(alloc, &fault, at)
 }
 
 /// The error that no goal may add a clause at an end to the procedure of this name and arity.

@@ -3,7 +3,8 @@ ghost use Rattle.std.specs.Prelude.{◌≡◌, ◌≤◌, ◌∷◌, [], All, If
 ghost use Rattle.prolog_terms.specs.Substitutions.{numbered};
 ghost use Rattle.prolog_terms.specs.Clauses.{body_of};
 ghost use Rattle.term_builtins.specs.Meanings.{list_tree};
-ghost use Rattle.wam_machine.specs.Machine.{Going, Do, FindallEnd, FindallMark, onwards, pushed, height as height_of, fails, gathering, gathered, found_at, new_copies, behind_copies};
+ghost use Rattle.wam_machine.specs.States.{Going, Do, FindallEnd, FindallMark, onwards, pushed, height as height_of, fails};
+ghost use Rattle.wam_machine.specs.Machine.{gathering, gathered, found_at, new_copies, behind_copies};
 ghost use Rattle.wam_machine.specs.Terms.{AreTerms, IsGoal, IsBuilt, IsGrown, KeepsCells, said, built};
 ghost use Rattle.wam_machine.specs.View.{Acts, calls};
 

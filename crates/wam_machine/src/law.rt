@@ -1,5 +1,6 @@
 // Laws of the machine's definition.
-ghost use Rattle.wam_machine.specs.Machine.{TranscriptIsOne, StepsAreWithin, HasTranscript, GoalsAreBodies, CatchesHaveMarks, EachGoalRuns, LegalHasBodies, EngineLaws};
+ghost use Rattle.wam_machine.specs.Machine.{TranscriptIsOne, StepsAreWithin, HasTranscript};
+ghost use Rattle.wam_machine.specs.Laws.{GoalsAreBodies, CatchesHaveMarks, EachGoalRuns, LegalHasBodies, EngineLaws};
 ghost use Rattle.wam_machine.specs.Found.{FindallsHaveMarks};
 ghost use Rattle.wam_machine.specs.Defined.{DefinedAreCalled, ReservedAreDone};
 ghost use Rattle.wam_machine.specs.Spine.{BodiesByWalk};

@@ -32,6 +32,7 @@ mod sweeping;
 mod terms;
 
 pub use engine::Engine;
+pub use errors::no_change;
 pub use law::{
     bodies_by_walk, catches_have_marks, each_goal_runs, engine_laws, findalls_have_marks, rows,
     transcript, what_is_defined_is_called, what_is_reserved_is_done,

@@ -5,7 +5,8 @@ ghost use Rattle.prolog_terms.specs.Substitutions.{substituted, numbered};
 ghost use Rattle.journals.specs.Journal.{Journal};
 ghost use Rattle.journal_base.specs.Looks.{HasRoom};
 ghost use Rattle.journal_base.specs.View.{IsSound, Grows, Looks};
-ghost use Rattle.wam_machine.specs.Machine.{Setting, Do, move};
+ghost use Rattle.wam_machine.specs.States.{Setting, Do};
+ghost use Rattle.wam_machine.specs.Machine.{move};
 ghost use Rattle.wam_machine.specs.Terms.{AreTerms, IsGoal, IsTurn, HasNewest, said, built, turn_now, is_open, is_any_open};
 ghost use Rattle.wam_machine.specs.Goals.{IsControl, IsSimple};
 ghost use Rattle.wam_machine.specs.Cursors.{Begins, AreNamed};
@@ -75,7 +76,6 @@ fn go_on<B: Base, R: Wait, G: Gate>(
     match take_next(&mut machine.terms) {
         None => {
             answer(machine)?;
-            let _front = base.front();
             Ok(None)
         }
         Some(Next::Do(goal, cut)) => do_goal(base, machine, host, goal, cut, rt, gate),
@@ -93,7 +93,6 @@ fn go_on<B: Base, R: Wait, G: Gate>(
         }
         Some(Next::FindallEnd(template, height)) => {
             keep_found(machine, template, height)?;
-            let _front = base.front();
             Ok(None)
         }
     }
@@ -137,7 +136,6 @@ fn do_goal<B: Base, R: Wait, G: Gate>(
     let control = goal_control(host.alloc, &machine.terms, goal)?;
     if let Control::Both(left, right) = control {
         conjoin(machine, left, right, cut)?;
-        let _front = base.front();
         return Ok(None);
     }
     let end = perform(base, machine, host, goal, cut, control, rt, gate)?;
@@ -202,12 +200,10 @@ fn perform<B: Base, R: Wait, G: Gate>(
         Control::Halt => Ok(Some(RunEnd::Halted(0))),
         Control::HaltWith(code) => {
             let end = halt(machine, host.alloc, code)?;
-            let _front = base.front();
             Ok(end)
         }
         other => {
             construct(machine, host.alloc, host.ops, cut, other)?;
-            let _front = base.front();
             Ok(None)
         }
     }
@@ -330,12 +326,10 @@ fn resume<B: Base, R: Wait>(
         }
         Alternative::Right(goal, cut) => {
             push_next(&mut machine.terms, Next::Do(goal, cut))?;
-            let _front = base.front();
             Ok(())
         }
         Alternative::Again => {
             repeat(machine)?;
-            let _front = base.front();
             Ok(())
         }
         Alternative::NotMark => unreachable!(),

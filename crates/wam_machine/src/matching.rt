@@ -6,7 +6,8 @@ ghost use Rattle.prolog_terms.specs.declared.fault.Fault.{Fault};
 ghost use Rattle.prolog_clauses.specs.Formed.{parts_of};
 ghost use Rattle.journals.specs.Journal.{Journal, procedure_named};
 ghost use Rattle.journal_base.specs.View.{Grows};
-ghost use Rattle.wam_machine.specs.Machine.{State, Outcome, Goes, inspecting, retracting, matching, matching_where, headed, unless_integer, clause_at, retract_at, ToShow, ToErase, call_for, refusal_for, raises, taking};
+ghost use Rattle.wam_machine.specs.States.{State, Outcome, Goes, ToShow, ToErase, raises, taking};
+ghost use Rattle.wam_machine.specs.Procedures.{inspecting, retracting, matching, matching_where, headed, unless_integer, clause_at, retract_at, call_for, refusal_for};
 ghost use Rattle.wam_machine.specs.Terms.{AreTerms, IsBuilt, IsGrown, said, built, purpose_of};
 ghost use Rattle.wam_machine.specs.Cursors.{Begins};
 ghost use Rattle.wam_machine.specs.View.{setting, calls, mode_of, IsReady, IsLeft, AreKept, GoesOn, Makes, IsHostOf};
@@ -378,6 +379,7 @@ fn refusal(alloc: Global, purpose: Purpose, indicator: &Indicator) -> Result<Ter
 pub(crate) fn stands<B: Base>(base: &B)
     ensures { Grows (B.view base.now) (B.view base.now) }
 {
+    // For its clause `sound`.
     let _front = base.front();
 }
 
@@ -395,6 +397,7 @@ pub(crate) fn raise<B: Base>(
         → Makes (B.view base.now) (B.view base.now) (λ made. (j : Journal) → Begins (B.view base.now) j
         → GoesOn B.rest B.may_visit B.looked_at B.ahead (B.view base.now).causes made (f j) j machine.old machine.new) }
 {
+    // The contract speaks of both.
     let _base = base;
     let _host = host;
     machine.mode = Mode::Raising(ball);
@@ -415,6 +418,7 @@ pub(crate) fn stop<B: Base>(
         → Makes (B.view base.now) (B.view base.now) (λ made. (j : Journal) → Begins (B.view base.now) j
         → GoesOn B.rest B.may_visit B.looked_at B.ahead (B.view base.now).causes made (λ s. taking (setting host.now machine.old j) s (with j s.front)) j machine.old machine.new)) }
 {
+    // The contract speaks of it.
     let _host = host;
     take_front(base, machine)?;
     machine.mode = mode;

@@ -8,7 +8,8 @@ ghost use Rattle.journals.specs.Journal.{Journal, clause_named, number_of, proce
 ghost use Rattle.journal_base.specs.Looks.{HasRoom};
 ghost use Rattle.journal_base.specs.Goals.{Goal};
 ghost use Rattle.journal_base.specs.View.{IsSound, Grows, Looks, has_more};
-ghost use Rattle.wam_machine.specs.Machine.{State, Outcome, taking, calling};
+ghost use Rattle.wam_machine.specs.States.{State, Outcome, taking};
+ghost use Rattle.wam_machine.specs.Procedures.{calling};
 ghost use Rattle.wam_machine.specs.Terms.{AreTerms, IsBuilt, IsOfUse, IsOfCall, KeepsCells, said, built, use_of, call_now, saved_now};
 ghost use Rattle.wam_machine.specs.Cursors.{Begins, names_left, AreNamed, IsUsable, IsOpenTo};
 ghost use Rattle.wam_machine.specs.View.{setting, calls, IsReady, IsLeft, AreKept, GoesOn, Makes, IsHostOf, Tries, Attempts, IsSearch, IsFronted, HasOnlyAsked, Asks, IsPushed, KeepsCounts, where_met};
@@ -264,7 +265,6 @@ fn serve<B: Base, R: Wait>(
     ensures same { HasOnlyAsked machine.old machine.new }
     ensures asks { OnOk result (Asks (B.view base.old) (B.view base.new) (λ j s. where_met (setting host.now machine.old j) (use_of (built machine.old.terms) used) name s met) machine.old machine.new) }
 {
-    let _front = base.front();
     if !met {
         machine.mode = Mode::Failing;
         return Ok(());
@@ -300,6 +300,7 @@ fn keep<B: Base>(
         match make_place(&mut machine.terms) {
             Ok(()) => {
                 save(&mut machine.terms, Alternative::Clauses(call));
+                // For its clause `sound`.
                 let _front = base.front();
                 Ok(())
             }

@@ -5,7 +5,8 @@ ghost use Rattle.prolog_terms.specs.Substitutions.{beyond, renamed};
 ghost use Rattle.term_unifier.specs.Unifier.{unifier};
 ghost use Rattle.journals.specs.Journal.{Journal};
 ghost use Rattle.journal_base.specs.View.{Looks};
-ghost use Rattle.wam_machine.specs.Machine.{Setting, State, Going, halting, over, catching_ball, raising as raising_ball, reached};
+ghost use Rattle.wam_machine.specs.States.{Setting, State, Going, over};
+ghost use Rattle.wam_machine.specs.Machine.{halting, catching_ball, raising as raising_ball, reached};
 ghost use Rattle.wam_machine.specs.Terms.{AreTerms, IsBuilt, KeepsBound, HasCatch, IsSolved, said, built};
 ghost use Rattle.wam_machine.specs.Cursors.{Begins};
 ghost use Rattle.wam_machine.specs.View.{setting, calls, Acts, IsReady, IsLeft, AreKept, Does, IsRaising};
@@ -44,10 +45,7 @@ pub(crate) fn raise<B: Base>(
         → Does B.rest B.may_visit B.looked_at B.ahead (B.view base.new).causes [] (λ s. raising_ball (setting host.now machine.old j) s ball) (setting host.now machine.old j) machine.old machine.new o) }
 {
     match active_catch(&machine.terms) {
-        None => {
-            let _front = base.front();
-            Ok(uncaught(machine))
-        }
+        None => { Ok(uncaught(machine)) }
         Some(height) => {
             if height_now(&machine.terms) > height {
                 cut_stack(base, machine, host, height);
@@ -76,13 +74,9 @@ fn reach<B: Base>(
         → Does B.rest B.may_visit B.looked_at B.ahead (B.view base.new).causes [] (λ s. reached (setting host.now machine.old j) ball s s.stack) (setting host.now machine.old j) machine.old machine.new o) }
 {
     match see_newest(&machine.terms) {
-        Newest::Nothing => {
-            let _front = base.front();
-            Ok(uncaught(machine))
-        }
+        Newest::Nothing => { Ok(uncaught(machine)) }
         Newest::Catch => {
             recover(machine)?;
-            let _front = base.front();
             Ok(None)
         }
         Newest::Open | Newest::Mark => {

@@ -96,6 +96,7 @@ fn moves<B: Base, R: Wait, G: Gate>(
     ensures ended { IfOk result (λ end. Makes (B.view base.old) (B.view base.new) (λ made. (j : Journal) → Begins (B.view base.new) j → entries_by host.now.engine (drop host.now.start j) ≡ made
         → IsTranscribed (setting host.now machine.old j) (B.view base.new).causes goal.now.term (run_of host.now.engine goal.now.shown machine.new end))) }
 {
+    // The contract speaks of it.
     let _goal = goal;
     for _ in rt.forever() {
         if let Some(end) = advance(base, machine, host, rt, gate)? {

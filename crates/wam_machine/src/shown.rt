@@ -5,7 +5,8 @@ ghost use Rattle.prolog_terms.specs.Substitutions.{substituted, numbered, beyond
 ghost use Rattle.term_store.specs.Terms.{raw, meaning, HasTerm, AreNamed};
 ghost use Rattle.term_store.specs.Later.{IsLater, AreLonger, AreDistinct};
 ghost use Rattle.wam_machine.specs.Beyond.{beyond_node as beyond_in};
-ghost use Rattle.wam_machine.specs.Machine.{Do, shown_list};
+ghost use Rattle.wam_machine.specs.States.{Do};
+ghost use Rattle.wam_machine.specs.Machine.{shown_list};
 ghost use Rattle.wam_machine.specs.Control.{first_body};
 ghost use Rattle.wam_machine.specs.Terms.{AreTerms, IsBuilt, IsGoal, IsGrown, said, built};
 ghost use Rattle.wam_machine.specs.Runs.{AreShown};
@@ -157,6 +158,7 @@ fn list_with(
     ensures cell { IfOk result (HasTerm (length names.now) store.new) }
     ensures term { IfOk result (λ c. raw names.now store.new c ≡ shown_list shown.now) }
 {
+    // The contract speaks of it.
     let _names = names;
     let mut list = end;
     let mut left = shown.len();

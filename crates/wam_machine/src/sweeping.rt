@@ -9,7 +9,8 @@ ghost use Rattle.journals.specs.Journal.{Journal, clause_named, procedure_named}
 ghost use Rattle.journal_base.specs.Goals.{Goal};
 ghost use Rattle.journal_base.specs.Looks.{CountsVisits, HasRoom};
 ghost use Rattle.journal_base.specs.View.{IsSound, Grows};
-ghost use Rattle.wam_machine.specs.Machine.{State, Outcome, taking, clearing, abolishing, sweeping_named, sweeping_where, Match, ToErase, absent_swept, declaring_swept, declared_as, sweep_at, swept_keys, no_change};
+ghost use Rattle.wam_machine.specs.States.{State, Outcome, taking, Match, ToErase};
+ghost use Rattle.wam_machine.specs.Procedures.{clearing, abolishing, sweeping_named, sweeping_where, absent_swept, declaring_swept, declared_as, sweep_at, swept_keys, no_change};
 ghost use Rattle.wam_machine.specs.Naming.{naming_of};
 ghost use Rattle.wam_machine.specs.Terms.{AreTerms, IsBuilt, IsGrown, KeepsCells, said, built, call_now};
 ghost use Rattle.term_store.specs.Later.{AreLonger};
@@ -311,6 +312,7 @@ fn declared_before<B: Base>(
     ensures same { HasOnlyAsked machine.old machine.new }
     ensures asks { OnOk result (Asks (B.view base.now) (B.view base.now) (λ j s. declared_as indicator.now s kind) machine.old machine.new) }
 {
+    // The contract speaks of it.
     let _base = base;
     match kind {
         Kind::Static => {

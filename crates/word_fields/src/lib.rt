@@ -6,8 +6,6 @@
 
 mod field;
 mod law;
-#[cfg(test)]
-mod tests;
 mod words;
 
 pub use field::Field;

@@ -6,7 +6,8 @@ use Rattle.prolog_terms.specs.declared.fault.Fault.TheVariants.{Instantiation, R
 use Rattle.term_store.specs.Terms.{trees_of}
 use Rattle.term_store.specs.declared.cell.Cell.{Cell}
 use Rattle.prolog_terms.specs.Clauses.{body_of}
-use Rattle.wam_machine.specs.Machine.{State, Outcome, raises, running, call_with, calling_added}
+use Rattle.wam_machine.specs.States.{State, Outcome, raises}
+use Rattle.wam_machine.specs.Machine.{running, call_with, calling_added}
 use Rattle.wam_machine.specs.Goals.{IsAdded}
 use Rattle.wam_machine.specs.Terms.{built}
 use Rattle.wam_machine.specs.View.{Acts}

@@ -1,6 +1,6 @@
 use Rattle.std.proofs.Common.{suc, length, [], ◌∷◌, ◌++◌, refl, ap, ap₂, ◌∙◌}
 use Rattle.prolog_terms.specs.Tree.{Tree}
-use Rattle.wam_machine.specs.Machine.{Do, CatchEnd, CatchMark}
+use Rattle.wam_machine.specs.States.{Do, CatchEnd, CatchMark}
 use Rattle.wam_machine.specs.Terms.{Saved, Said, OfCatch, said, built, calls_in}
 use Rattle.wam_machine.proofs.Acted.{acts-pushed, said-saved, said-put, cells-on, on_ok, calls-beside, higher}
 use Rattle.wam_machine.proofs.Told.{at_err, err_weaker}

@@ -1,5 +1,5 @@
 use Rattle.std.proofs.Common.{suc, length, [], ◌∷◌, ◌++◌, refl, ap, ap₂, ◌∙◌}
-use Rattle.wam_machine.specs.Machine.{Do, NotEnd, NotMark}
+use Rattle.wam_machine.specs.States.{Do, NotEnd, NotMark}
 use Rattle.wam_machine.specs.Terms.{Saved, Said, OfNot, said, built, calls_in}
 use Rattle.wam_machine.proofs.Acted.{acts-pushed, said-saved, said-put, cells-on, on_ok, calls-beside, higher}
 use Rattle.wam_machine.proofs.Told.{at_err, err_weaker}

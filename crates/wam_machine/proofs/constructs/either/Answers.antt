@@ -1,5 +1,5 @@
 use Rattle.std.proofs.Common.{[], ◌∷◌, ◌++◌, refl, ap, ◌∙◌}
-use Rattle.wam_machine.specs.Machine.{Do, Right}
+use Rattle.wam_machine.specs.States.{Do, Right}
 use Rattle.wam_machine.specs.Terms.{Saved, Said, OfRight, said, built, calls_in}
 use Rattle.wam_machine.specs.declared.state.Machine.{Machine}
 use Rattle.wam_machine.proofs.Acted.{acts-pushed, said-saved, said-put, cells-on, on_ok, calls-beside}

@@ -1,5 +1,5 @@
 use Rattle.std.proofs.Common.{length, [], ◌∷◌, refl, ap, ap₂}
-use Rattle.wam_machine.specs.Machine.{Do, ConditionEnd}
+use Rattle.wam_machine.specs.States.{Do, ConditionEnd}
 use Rattle.wam_machine.specs.Terms.{said, built}
 use Rattle.wam_machine.proofs.Acted.{acts-onwards, said-put, cells-on, on_ok}
 use Rattle.wam_machine.proofs.constructs.if_alone.Goals as goal

@@ -1,5 +1,5 @@
 use Rattle.std.proofs.Common.{[], refl}
-use Rattle.wam_machine.specs.Machine.{Again}
+use Rattle.wam_machine.specs.States.{Again}
 use Rattle.wam_machine.specs.Terms.{Saved, OfRepeat, said}
 use Rattle.wam_machine.specs.declared.state.Machine.{Machine}
 use Rattle.wam_machine.proofs.Acted.{acts-pushed, said-saved}

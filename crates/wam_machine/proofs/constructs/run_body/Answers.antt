@@ -2,7 +2,8 @@ use Rattle.std.proofs.Common.{length, [], ◌∷◌, refl, sym, ap, ◌∙◌, s
 use Rattle.std.specs.Prelude.{Option}
 use Rattle.prolog_terms.specs.Tree.{Tree}
 use Rattle.term_store.specs.declared.cell.Cell.{Cell}
-use Rattle.wam_machine.specs.Machine.{Do, running}
+use Rattle.wam_machine.specs.States.{Do}
+use Rattle.wam_machine.specs.Machine.{running}
 use Rattle.wam_machine.specs.Goals.{IsMadeBody}
 use Rattle.wam_machine.specs.Terms.{Said, said, built}
 use Rattle.wam_machine.specs.View.{Acts}

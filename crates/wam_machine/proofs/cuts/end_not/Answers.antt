@@ -1,4 +1,4 @@
-use Rattle.wam_machine.specs.Machine.{cut_back}
+use Rattle.wam_machine.specs.States.{cut_back}
 use Rattle.wam_machine.proofs.CutMoves.{goes_failing}
 use Rattle.wam_machine.proofs.cuts.end_not.Goals as goal
 

@@ -1,8 +1,8 @@
-use Rattle.std.proofs.Common.{◌≡◌, refl, ap, subst}
+use Rattle.std.proofs.Common.{ap, subst}
 use Rattle.std.proofs.lemmas.Result.{on_ok_weaker}
 use Rattle.prolog_clauses.specs.Formed.{parts_of}
 use Rattle.wam_machine.specs.Goals.{access_in, IsOfAccess}
-use Rattle.wam_machine.specs.Machine.{accessing, inspecting, retracting, clearing, abolishing}
+use Rattle.wam_machine.specs.Procedures.{accessing, inspecting, retracting, clearing, abolishing}
 use Rattle.wam_machine.specs.Naming.{naming_of}
 use Rattle.wam_machine.specs.Terms.{IsBuilt, built}
 use Rattle.wam_machine.specs.View.{setting}

@@ -1,9 +1,8 @@
-use Rattle.std.proofs.Common.{◌≡◌, sym, ◌∙◌, Some, None}
+use Rattle.std.proofs.Common.{◌≡◌, sym, ◌∙◌, Some}
 use Rattle.std.proofs.lemmas.Result.{on_ok_weaker}
 use Rattle.journals.specs.Journal.{procedure_named}
-use Rattle.wam_machine.proofs.Begins.{seen_in}
-use Rattle.wam_machine.proofs.Fronted.{grows_further, host_on}
-use Rattle.wam_machine.proofs.Asked.{IsTaken, taken_front, taking_front}
+use Rattle.wam_machine.proofs.Begins.{seen_in, grows_trans, host_on}
+use Rattle.wam_machine.proofs.Asked.{taken_front, taking_front}
 use Rattle.wam_machine.proofs.Adding.{named_found, named_absent}
 use Rattle.wam_machine.proofs.database.add_named.Goals as goal
 
@@ -13,7 +12,7 @@ add_to-requires-clause-found g c = λ j b.
     (λ J s. sym (c.find-found.ensures.found J s) ∙ c.in-Some.is) b
 
 pub add_to-requires-clause-host : goal.add_to-requires-clause-host
-add_to-requires-clause-host g c = host_on c.args.host.now (g.B.Base.view c.args.base.now) (g.B.Base.view c.find-found.new.self) c.requires.host c.find-found.ensures.seen.grows
+add_to-requires-clause-host g c = host_on c.args.host.now (g.B.Base.view c.args.base.now) (g.B.Base.view c.find-found.new.self) c.find-found.ensures.seen.grows c.requires.host
 
 pub add_to-requires-clause-front : goal.add_to-requires-clause-front
 add_to-requires-clause-front g c =
@@ -21,7 +20,7 @@ add_to-requires-clause-front g c =
     taken_front (g.B.Base.view c.find-found.new.self) c.args.machine.now c.take_front.new.machine taken.sound (taking_front _ _ _ taken.same taken.mode taken.front taken.fronts)
 
 pub returns-in-Some-clause-seen : goal.returns-in-Some-clause-seen
-returns-in-Some-clause-seen g c = grows_further _ (g.B.Base.view c.find-found.new.self) _ c.find-found.ensures.seen.grows c.add_to.ensures.seen
+returns-in-Some-clause-seen g c = grows_trans _ (g.B.Base.view c.find-found.new.self) _ c.find-found.ensures.seen.grows c.add_to.ensures.seen
 
 pub returns-in-Some-clause-asks : goal.returns-in-Some-clause-asks
 returns-in-Some-clause-asks g c =
@@ -34,7 +33,7 @@ returns-in-Some-clause-asks g c =
     c.add_to.ensures.asks
 
 pub declare_first-requires-clause-host : goal.declare_first-requires-clause-host
-declare_first-requires-clause-host g c = host_on c.args.host.now (g.B.Base.view c.args.base.now) (g.B.Base.view c.find-found.new.self) c.requires.host c.find-found.ensures.seen.grows
+declare_first-requires-clause-host g c = host_on c.args.host.now (g.B.Base.view c.args.base.now) (g.B.Base.view c.find-found.new.self) c.find-found.ensures.seen.grows c.requires.host
 
 pub declare_first-requires-clause-front : goal.declare_first-requires-clause-front
 declare_first-requires-clause-front g c =
@@ -42,7 +41,7 @@ declare_first-requires-clause-front g c =
     taken_front (g.B.Base.view c.find-found.new.self) c.args.machine.now c.take_front.new.machine taken.sound (taking_front _ _ _ taken.same taken.mode taken.front taken.fronts)
 
 pub returns-in-None-clause-seen : goal.returns-in-None-clause-seen
-returns-in-None-clause-seen g c = grows_further _ (g.B.Base.view c.find-found.new.self) _ c.find-found.ensures.seen.grows c.declare_first.ensures.seen
+returns-in-None-clause-seen g c = grows_trans _ (g.B.Base.view c.find-found.new.self) _ c.find-found.ensures.seen.grows c.declare_first.ensures.seen
 
 pub returns-in-None-clause-asks : goal.returns-in-None-clause-asks
 returns-in-None-clause-asks g c =

@@ -1,7 +1,7 @@
-use Rattle.std.proofs.Common.{sym, ap, ◌∙◌, subst, take, Some}
+use Rattle.std.proofs.Common.{sym, subst}
 use Rattle.std.specs.Prelude.{OnOk}
 use Rattle.prolog_terms.specs.declared.entry.Kind.{Kind}
-use Rattle.wam_machine.specs.Machine.{adding_to}
+use Rattle.wam_machine.specs.Procedures.{adding_to}
 use Rattle.wam_machine.specs.View.{setting, Asks}
 use Rattle.wam_machine.proofs.Adding.{static_stays}
 use Rattle.wam_machine.proofs.database.add_to.Goals as goal

@@ -1,4 +1,4 @@
-use Rattle.std.proofs.Common.{◌≡◌, sym, ap, ◌∙◌}
+use Rattle.std.proofs.Common.{sym, ap, ◌∙◌}
 use Rattle.std.proofs.lemmas.Result.{on_ok_weaker}
 use Rattle.prolog_terms.specs.Tree.{Tree}
 use Rattle.prolog_terms.specs.Faults.{fault_tree}
@@ -6,7 +6,7 @@ use Rattle.prolog_terms.specs.declared.entry.Indicator.{Indicator}
 use Rattle.prolog_clauses.specs.Formed.{clause_of}
 use Rattle.prolog_clauses.proofs.Laws.{made_clause}
 use Rattle.wam_machine.specs.Terms.{IsBuilt, built}
-use Rattle.wam_machine.proofs.Fronted.{grows_itself}
+use Rattle.wam_machine.proofs.Begins.{grows_refl}
 use Rattle.wam_machine.proofs.Adding.{formed_refused, formed_adds}
 use Rattle.wam_machine.proofs.database.assert.Goals as goal
 
@@ -27,13 +27,13 @@ returns-in-Clause-clause-asks g c =
     c.add_clause.ensures.asks
 
 pub returns-in_err-at-in-Refused-clause-seen : goal.returns-in_err-at-in-Refused-clause-seen
-returns-in_err-at-in-Refused-clause-seen g c = grows_itself _ c.requires.sound
+returns-in_err-at-in-Refused-clause-seen g c = grows_refl _ c.requires.sound
 
 pub returns-in_err-fault_term-in-Refused-clause-seen : goal.returns-in_err-fault_term-in-Refused-clause-seen
-returns-in_err-fault_term-in-Refused-clause-seen g c = grows_itself _ c.requires.sound
+returns-in_err-fault_term-in-Refused-clause-seen g c = grows_refl _ c.requires.sound
 
 pub returns-clause-seen : goal.returns-clause-seen
-returns-clause-seen g c = grows_itself _ c.requires.sound
+returns-clause-seen g c = grows_refl _ c.requires.sound
 
 pub returns-clause-asks : goal.returns-clause-asks
 unfolding built

@@ -2,9 +2,8 @@ use Rattle.std.proofs.Common.{◌≡◌, Some}
 use Rattle.std.proofs.lemmas.Result.{on_ok_weaker}
 use Rattle.prolog_terms.specs.declared.entry.Kind.TheVariants.{Dynamic}
 use Rattle.journals.specs.Journal.{procedure_named}
-use Rattle.wam_machine.proofs.Begins.{seen_in}
-use Rattle.wam_machine.proofs.Fronted.{grows_further, host_on}
-use Rattle.wam_machine.proofs.Asked.{IsTaken, taken_front, taking_front}
+use Rattle.wam_machine.proofs.Begins.{seen_in, grows_trans, host_on}
+use Rattle.wam_machine.proofs.Asked.{taken_front, taking_front}
 use Rattle.wam_machine.proofs.Adding.{declared_done, declared_already, declared_full}
 use Rattle.wam_machine.proofs.database.declare_first.Goals as goal
 
@@ -13,7 +12,7 @@ add-requires-clause-found g c = λ j b.
     seen_in (g.B.Base.view c.declare.new.self) (λ J. procedure_named J c.args.addition.now.indicator.now ≡ Some (c.in-Done.procedure, Dynamic)) j c.in-Done.ensures.declared.1 b
 
 pub add-requires-clause-host : goal.add-requires-clause-host
-add-requires-clause-host g c = host_on c.args.host.now (g.B.Base.view c.args.base.now) (g.B.Base.view c.declare.new.self) c.requires.host c.in-Done.ensures.declared.0.grows
+add-requires-clause-host g c = host_on c.args.host.now (g.B.Base.view c.args.base.now) (g.B.Base.view c.declare.new.self) c.in-Done.ensures.declared.0.grows c.requires.host
 
 pub add-requires-clause-front : goal.add-requires-clause-front
 add-requires-clause-front g c =
@@ -21,7 +20,7 @@ add-requires-clause-front g c =
     taken_front (g.B.Base.view c.declare.new.self) c.args.machine.now c.take_front.new.machine taken.sound (taking_front _ _ _ taken.same taken.mode taken.front taken.fronts)
 
 pub returns-in_ok-take_front-in-Done-clause-seen : goal.returns-in_ok-take_front-in-Done-clause-seen
-returns-in_ok-take_front-in-Done-clause-seen g c = grows_further _ (g.B.Base.view c.declare.new.self) _ c.in-Done.ensures.declared.0.grows c.add.ensures.seen
+returns-in_ok-take_front-in-Done-clause-seen g c = grows_trans _ (g.B.Base.view c.declare.new.self) _ c.in-Done.ensures.declared.0.grows c.add.ensures.seen
 
 pub returns-in_ok-take_front-in-Done-clause-asks : goal.returns-in_ok-take_front-in-Done-clause-asks
 returns-in_ok-take_front-in-Done-clause-asks g c =
@@ -38,7 +37,7 @@ add_to-requires-clause-found g c = λ j b.
     seen_in (g.B.Base.view c.declare.new.self) (λ J. procedure_named J c.args.addition.now.indicator.now ≡ Some (c.in-Already.procedure, c.in-Already.kind)) j c.in-Already.ensures.declared.1 b
 
 pub add_to-requires-clause-host : goal.add_to-requires-clause-host
-add_to-requires-clause-host g c = host_on c.args.host.now (g.B.Base.view c.args.base.now) (g.B.Base.view c.declare.new.self) c.requires.host c.in-Already.ensures.declared.0.grows
+add_to-requires-clause-host g c = host_on c.args.host.now (g.B.Base.view c.args.base.now) (g.B.Base.view c.declare.new.self) c.in-Already.ensures.declared.0.grows c.requires.host
 
 pub add_to-requires-clause-front : goal.add_to-requires-clause-front
 add_to-requires-clause-front g c =
@@ -46,7 +45,7 @@ add_to-requires-clause-front g c =
     taken_front (g.B.Base.view c.declare.new.self) c.args.machine.now c.take_front-in-Already.new.machine taken.sound (taking_front _ _ _ taken.same taken.mode taken.front taken.fronts)
 
 pub returns-in_ok-take_front-in-Already-clause-seen : goal.returns-in_ok-take_front-in-Already-clause-seen
-returns-in_ok-take_front-in-Already-clause-seen g c = grows_further _ (g.B.Base.view c.declare.new.self) _ c.in-Already.ensures.declared.0.grows c.add_to.ensures.seen
+returns-in_ok-take_front-in-Already-clause-seen g c = grows_trans _ (g.B.Base.view c.declare.new.self) _ c.in-Already.ensures.declared.0.grows c.add_to.ensures.seen
 
 pub returns-in_ok-take_front-in-Already-clause-asks : goal.returns-in_ok-take_front-in-Already-clause-asks
 returns-in_ok-take_front-in-Already-clause-asks g c =

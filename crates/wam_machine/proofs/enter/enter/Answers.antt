@@ -1,6 +1,6 @@
 use Rattle.std.proofs.Common.{◌∙◌, ◌+◌, arith, subst}
 use Rattle.term_store.proofs.Laws.{later-further, longer-further}
-use Rattle.wam_machine.specs.Machine.{Match}
+use Rattle.wam_machine.specs.States.{Match}
 use Rattle.wam_machine.specs.Terms.{said, built, purpose_of, use_of, IsBuilt, IsOfUse}
 use Rattle.wam_machine.proofs.Grown.{can-later}
 use Rattle.wam_machine.proofs.Told.{at_err, is_built-later}

@@ -2,7 +2,8 @@ use Rattle.std.proofs.Common.{suc, [], ◌∷◌, sym, subst}
 use Rattle.std.specs.Prelude.{Option}
 use Rattle.prolog_terms.specs.Tree.{Tree}
 use Rattle.term_store.specs.declared.cell.Cell.{Cell}
-use Rattle.wam_machine.specs.Machine.{State, Outcome, Do, FindallEnd, FindallMark, onwards, pushed, height, gathering}
+use Rattle.wam_machine.specs.States.{State, Outcome, Do, FindallEnd, FindallMark, onwards, pushed, height}
+use Rattle.wam_machine.specs.Machine.{gathering}
 use Rattle.wam_machine.specs.Goals.{IsMadeBody}
 use Rattle.wam_machine.specs.Terms.{built}
 use Rattle.wam_machine.specs.View.{Acts}

@@ -1,6 +1,6 @@
 use Rattle.std.proofs.Common.{suc, length, List, [], ◌∷◌, ◌++◌, refl, ap, ap₂, ◌∙◌}
 use Rattle.prolog_terms.specs.Tree.{Tree}
-use Rattle.wam_machine.specs.Machine.{Do, FindallEnd, FindallMark}
+use Rattle.wam_machine.specs.States.{Do, FindallEnd, FindallMark}
 use Rattle.wam_machine.specs.Terms.{Saved, Said, Turn, OfFindall, said, built, calls_in}
 use Rattle.wam_machine.proofs.Acted.{acts-pushed, said-saved, said-put, cells-on, on_ok, calls-beside, higher}
 use Rattle.wam_machine.proofs.Told.{at_err, err_weaker}

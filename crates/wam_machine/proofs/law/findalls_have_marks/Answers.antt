@@ -1,4 +1,4 @@
-use Rattle.wam_machine.proofs.FindallMarks.{findalls_have_marks}
+use Rattle.wam_machine.proofs.Marks.{findalls_have_marks}
 use Rattle.wam_machine.proofs.law.findalls_have_marks.Goals as goal
 
 pub returns : goal.returns

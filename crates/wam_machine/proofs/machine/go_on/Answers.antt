@@ -1,6 +1,7 @@
 use Rattle.std.proofs.Common.{sym, ◌≡◌, ◌++◌, ◌∷◌, [], refl, ap, ◌∙◌, subst}
 use Rattle.prolog_terms.specs.Substitutions.{substituted, numbered}
-use Rattle.wam_machine.specs.Machine.{Setting, Do, ConditionEnd, NotEnd, CatchEnd, FindallEnd, State, Outcome, Goes, fails, cut_back, leaving_catch, found_at}
+use Rattle.wam_machine.specs.States.{Setting, Do, ConditionEnd, NotEnd, CatchEnd, FindallEnd, State, Outcome, Goes, fails, cut_back}
+use Rattle.wam_machine.specs.Machine.{leaving_catch, found_at}
 use Rattle.wam_machine.specs.Terms.{Said, said, built, next_now, is_any_open}
 use Rattle.wam_machine.specs.View.{setting, performs_goal, Does}
 use Rattle.wam_machine.specs.declared.run.Event.TheVariants.{Answer}

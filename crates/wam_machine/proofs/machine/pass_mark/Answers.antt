@@ -1,6 +1,7 @@
 use Rattle.std.proofs.Common.{◌≡◌, ◌++◌, ◌∷◌, [], List, refl, sym, ap, ◌∙◌, subst}
 use Rattle.prolog_terms.specs.Tree.{Tree}
-use Rattle.wam_machine.specs.Machine.{Going, gathered}
+use Rattle.wam_machine.specs.States.{Going}
+use Rattle.wam_machine.specs.Machine.{gathered}
 use Rattle.wam_machine.specs.Terms.{OfFindall, said, built, saved_now, calls_in}
 use Rattle.wam_machine.specs.View.{Acts}
 use Rattle.wam_machine.specs.declared.state.Machine.{Machine}

@@ -1,7 +1,7 @@
 use Rattle.std.proofs.Common.{◌++◌, ◌∷◌, [], refl, sym, subst}
 use Rattle.std.specs.Prelude.{All}
 use Rattle.wam_machine.specs.Cursors.{AreNamed}
-use Rattle.wam_machine.specs.Machine.{Do}
+use Rattle.wam_machine.specs.States.{Do}
 use Rattle.wam_machine.specs.Terms.{OfRight, OfRepeat, built, call_now, turn_now}
 use Rattle.wam_machine.specs.View.{setting, calls, turn_calls, IsFronted, Resumes}
 use Rattle.wam_machine.specs.declared.state.Machine.{Machine}

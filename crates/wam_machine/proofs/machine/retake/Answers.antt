@@ -1,7 +1,7 @@
 use Rattle.std.proofs.Common.{length, ◌+◌, true, ap, ◌∙◌, subst}
 use Rattle.std.specs.Prelude.{All}
 use Rattle.wam_machine.specs.Cursors.{AreNamed}
-use Rattle.wam_machine.specs.Machine.{Setting}
+use Rattle.wam_machine.specs.States.{Setting}
 use Rattle.wam_machine.specs.Terms.{said, calls_in, saved_now, turn_now}
 use Rattle.wam_machine.specs.View.{setting, calls, turn_calls, AreKept, Resumes}
 use Rattle.wam_machine.specs.declared.state.Machine.{Machine}

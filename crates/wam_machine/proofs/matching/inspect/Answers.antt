@@ -2,7 +2,8 @@ use Rattle.std.proofs.Common.{ap, ◌∙◌, subst}
 use Rattle.std.proofs.lemmas.Result.{on_ok_weaker}
 use Rattle.prolog_terms.specs.Faults.{fault_tree}
 use Rattle.prolog_terms.specs.declared.fault.Fault.TheVariants.{Instantiation}
-use Rattle.wam_machine.specs.Machine.{not_callable, ToShow, clause_at, inspecting, matching, unless_integer}
+use Rattle.wam_machine.specs.States.{not_callable, ToShow}
+use Rattle.wam_machine.specs.Procedures.{clause_at, inspecting, matching, unless_integer}
 use Rattle.wam_machine.specs.Heads.{IsHead}
 use Rattle.wam_machine.specs.Terms.{built}
 use Rattle.wam_machine.specs.View.{setting}

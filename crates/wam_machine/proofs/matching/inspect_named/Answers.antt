@@ -1,7 +1,8 @@
-use Rattle.std.proofs.Common.{ap, ◌∙◌, sym, subst}
+use Rattle.std.proofs.Common.{ap, ◌∙◌, subst}
 use Rattle.std.proofs.lemmas.Result.{on_ok_weaker}
 use Rattle.prolog_terms.specs.Faults.{fault_tree}
-use Rattle.wam_machine.specs.Machine.{ToShow, clause_at, not_callable, matching, unless_integer}
+use Rattle.wam_machine.specs.States.{ToShow, not_callable}
+use Rattle.wam_machine.specs.Procedures.{clause_at, matching, unless_integer}
 use Rattle.wam_machine.specs.Heads.{IsNumber}
 use Rattle.wam_machine.specs.Terms.{built}
 use Rattle.wam_machine.specs.View.{setting}

@@ -1,7 +1,8 @@
 use Rattle.std.proofs.Common.{◌≡◌, sym, ◌∙◌, take, Some, None}
 use Rattle.std.proofs.lemmas.Result.{on_ok_weaker}
 use Rattle.journals.specs.Journal.{procedure_named}
-use Rattle.wam_machine.specs.Machine.{matching, matching_where, taking, refusal_for, call_for}
+use Rattle.wam_machine.specs.States.{taking}
+use Rattle.wam_machine.specs.Procedures.{matching, matching_where, refusal_for, call_for}
 use Rattle.wam_machine.specs.Terms.{built, purpose_of}
 use Rattle.wam_machine.specs.View.{setting}
 use Rattle.wam_machine.proofs.Begins.{seen_in, grows_trans, host_on}

@@ -1,7 +1,7 @@
-use Rattle.std.proofs.Common.{◌≡◌, sym, ap, ◌∙◌, take, Some}
+use Rattle.std.proofs.Common.{take}
 use Rattle.std.proofs.lemmas.Result.{on_ok_weaker}
 use Rattle.journals.specs.Journal.{procedure_named}
-use Rattle.wam_machine.specs.Machine.{matching_where}
+use Rattle.wam_machine.specs.Procedures.{matching_where}
 use Rattle.wam_machine.specs.Terms.{built, purpose_of}
 use Rattle.wam_machine.specs.View.{setting}
 use Rattle.wam_machine.proofs.Begins.{begins_before}

@@ -1,5 +1,5 @@
 use Rattle.std.proofs.Common.{refl}
-use Rattle.wam_machine.specs.Machine.{raises}
+use Rattle.wam_machine.specs.States.{raises}
 use Rattle.wam_machine.specs.declared.state.Mode.TheVariants.{Raising as RaisingBall}
 use Rattle.wam_machine.proofs.Begins.{grows_refl}
 use Rattle.wam_machine.proofs.Asked.{asks_raised}

@@ -1,8 +1,6 @@
-use Rattle.std.proofs.Common.{ap, ◌∙◌, sym}
 use Rattle.std.proofs.lemmas.Result.{on_ok_weaker}
-use Rattle.prolog_terms.specs.Tree.{Tree}
-use Rattle.prolog_clauses.specs.Formed.{Parts, parts_of, rule}
-use Rattle.wam_machine.specs.Machine.{Setting, ToErase, retract_at, headed, matching, retracting}
+use Rattle.prolog_clauses.specs.Formed.{parts_of}
+use Rattle.wam_machine.specs.Procedures.{retracting}
 use Rattle.wam_machine.specs.Terms.{built}
 use Rattle.wam_machine.specs.View.{setting}
 use Rattle.wam_machine.proofs.AsksOn.{ready_said, left_said, goes_as, goes_said, setting_said, kept_stack}

@@ -2,7 +2,8 @@ use Rattle.std.proofs.Common.{ap, ◌∙◌, subst}
 use Rattle.std.proofs.lemmas.Result.{on_ok_weaker}
 use Rattle.prolog_terms.specs.Faults.{fault_tree}
 use Rattle.prolog_terms.specs.declared.fault.Fault.TheVariants.{Instantiation}
-use Rattle.wam_machine.specs.Machine.{not_callable, ToErase, retract_at, headed, matching}
+use Rattle.wam_machine.specs.States.{not_callable, ToErase}
+use Rattle.wam_machine.specs.Procedures.{retract_at, headed, matching}
 use Rattle.wam_machine.specs.Heads.{IsHead}
 use Rattle.wam_machine.specs.Terms.{built}
 use Rattle.wam_machine.specs.View.{setting}

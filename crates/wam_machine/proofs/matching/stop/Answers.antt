@@ -1,5 +1,5 @@
 use Rattle.std.proofs.Common.{refl}
-use Rattle.wam_machine.specs.Machine.{taking}
+use Rattle.wam_machine.specs.States.{taking}
 use Rattle.wam_machine.specs.View.{setting}
 use Rattle.wam_machine.proofs.Begins.{grows_refl}
 use Rattle.wam_machine.proofs.Asked.{taking_front, taken_front}

@@ -1,6 +1,5 @@
-use Rattle.std.proofs.Common.{ap, ◌∙◌, ℕ, List, ap₂}
+use Rattle.std.proofs.Common.{ap, ◌∙◌, ℕ, List}
 use Rattle.prolog_terms.specs.Tree.{Tree}
-use Rattle.prolog_terms.specs.Substitutions.{numbered}
 use Rattle.prolog_terms.specs.declared.fault.Fault.TheVariants.{OfType}
 use Rattle.wam_machine.specs.Terms.{IsBuilt, built}
 use Rattle.wam_machine.specs.declared.naming.Naming.TheVariants.{NamesNone}

@@ -1,7 +1,7 @@
 use Rattle.std.proofs.Common.{sym, ap, ◌∙◌, rules, w64, SFits}
 use Rattle.std.proofs.lemmas.Result.{IfOk-weaker}
 use Rattle.std.proofs.Math.Facts.{to_z-of_z}
-use Rattle.prolog_terms.specs.Tree.{Tree, integer}
+use Rattle.prolog_terms.specs.Tree.{integer}
 use Rattle.term_store.specs.Terms.{text}
 use Rattle.wam_machine.specs.Naming.{with_name}
 use Rattle.wam_machine.specs.Terms.{built}

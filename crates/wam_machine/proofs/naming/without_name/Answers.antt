@@ -1,6 +1,5 @@
 use Rattle.std.proofs.Common.{sym, ap, ◌∙◌}
 use Rattle.std.proofs.lemmas.Result.{IfOk-weaker}
-use Rattle.prolog_terms.specs.Tree.{Tree}
 use Rattle.term_store.specs.Terms.{text}
 use Rattle.wam_machine.specs.Naming.{without_name}
 use Rattle.wam_machine.specs.Terms.{built}

@@ -1,4 +1,4 @@
-use Rattle.std.proofs.Common.{◌++◌, ◌∷◌, [], sym, subst, ap, ◌∙◌}
+use Rattle.std.proofs.Common.{◌++◌, ◌∷◌, [], subst, ap}
 use Rattle.std.specs.Prelude.{All}
 use Rattle.wam_machine.specs.Terms.{Left, IsEntered, said, call_now}
 use Rattle.wam_machine.specs.Cursors.{Begins, AreNamed}

@@ -1,7 +1,7 @@
 use Rattle.std.proofs.Common.{◌≡◌, ◌∙◌, ◌++◌, List, sym, ap, take, None, Some}
 use Rattle.prolog_terms.specs.declared.entry.Entry.{Entry}
 use Rattle.journals.specs.Journal.{procedure_named, number_of}
-use Rattle.wam_machine.specs.Machine.{called}
+use Rattle.wam_machine.specs.Procedures.{called}
 use Rattle.wam_machine.specs.Terms.{built}
 use Rattle.wam_machine.specs.View.{setting}
 use Rattle.wam_machine.proofs.Begins.{begins_before, looks_trans, grows_trans, host_on, makes_none, seen_in}

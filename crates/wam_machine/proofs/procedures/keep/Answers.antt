@@ -6,7 +6,7 @@ use Rattle.wam_machine.specs.View.{AreKept}
 use Rattle.wam_machine.specs.declared.terms.Alternative.TheVariants as is
 use Rattle.wam_machine.proofs.Begins.{begins_before, looks_refl}
 use Rattle.wam_machine.proofs.Kept.{last_out, last_serves, kept_without}
-use Rattle.wam_machine.proofs.Tried.{call_kept, calls-left, stack-left}
+use Rattle.wam_machine.proofs.Tried.{call_kept, calls-left}
 use Rattle.wam_machine.proofs.procedures.keep.Goals as goal
 
 pub more-requires-clause-out : goal.more-requires-clause-out

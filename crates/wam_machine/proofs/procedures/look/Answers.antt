@@ -2,7 +2,7 @@ use Rattle.std.proofs.Common.{◌≡◌, ◌≤◌, ◌∙◌, ◌++◌, ◌∷�
 use Rattle.std.proofs.lemmas.List.Elements.{All-push}
 use Rattle.prolog_terms.specs.declared.entry.Entry.{Entry}
 use Rattle.term_store.specs.declared.cell.Cell.{Cell}
-use Rattle.wam_machine.specs.Machine.{taking}
+use Rattle.wam_machine.specs.States.{taking}
 use Rattle.wam_machine.specs.Terms.{IsBuilt, IsOfUse, call_now, built, use_of}
 use Rattle.wam_machine.specs.Cursors.{AreNamed}
 use Rattle.wam_machine.specs.View.{setting, calls, GoesOn, IsHeld, IsSearch}

@@ -3,7 +3,6 @@ use Rattle.std.proofs.lemmas.Result.{on_ok_weaker}
 use Rattle.wam_machine.specs.Terms.{built}
 use Rattle.wam_machine.specs.declared.terms.Purpose.{Purpose}
 use Rattle.wam_machine.specs.declared.terms.Purpose.TheVariants as purpose_is
-use Rattle.wam_machine.specs.declared.terms.Use.{Use}
 use Rattle.wam_machine.specs.declared.terms.Use.TheVariants as use_is
 use Rattle.wam_machine.proofs.Begins.{grows_refl}
 use Rattle.wam_machine.proofs.Served.{serves_apart, serves_quiet, serves_erased}

@@ -1,16 +1,16 @@
-use Rattle.std.proofs.Common.{◌≡◌, ◌++◌, List, ◌∙◌, refl, sym, subst, ap, append_assoc}
+use Rattle.std.proofs.Common.{◌++◌, List, ◌∙◌, refl, sym, subst, ap, append_assoc}
 use Rattle.std.specs.Prelude.{Option}
 use Rattle.prolog_terms.specs.Tree.{Tree}
 use Rattle.prolog_terms.specs.declared.entry.Entry.{Entry}
 use Rattle.journals.specs.Journal.{Journal}
-use Rattle.journal_base.specs.View.{View}
 use Rattle.wam_machine.specs.Cursors.{Begins}
-use Rattle.wam_machine.specs.Machine.{Setting, move}
-use Rattle.wam_machine.specs.View.{setting, Does, IsLed, Makes, IsHostOf}
+use Rattle.wam_machine.specs.States.{Setting}
+use Rattle.wam_machine.specs.Machine.{move}
+use Rattle.wam_machine.specs.View.{setting, Does, IsLed}
 use Rattle.wam_machine.specs.declared.run.RunEnd.{RunEnd}
-use Rattle.wam_machine.specs.declared.state.Host.{Host}
 use Rattle.wam_machine.proofs.Begins.{begins_before, grows_refl, grows_trans, looks_refl, makes_none, host_on}
-use Rattle.wam_machine.proofs.Led.{one_setting, leads_on, led_at_first, leads_to_end}
+use Rattle.wam_machine.proofs.Going.{same_setting}
+use Rattle.wam_machine.proofs.Led.{leads_on, led_at_first, leads_to_end}
 use Rattle.wam_machine.proofs.Ready.{ready_at_first}
 use Rattle.wam_machine.proofs.running.moves.Goals as goal
 
@@ -43,7 +43,7 @@ returns-in-Some-2-clause-ended g c =
       so = λ j b all.
           let x = setting c.args.host.now c.args.machine.now j in
           let before = begins_before v w j c.in_ok-end.ensures.seen b in
-          let moves = subst (λ (y : Setting). Does g.B.Base.rest g.B.Base.may_visit g.B.Base.looked_at g.B.Base.ahead w.causes o.made (move y) y m c.advance.new.machine c.in_ok-end.field-0) (one_setting c.args.host.now c.args.machine.now m j c.loop.invariant.shown) (o.so j b) in
+          let moves = subst (λ (y : Setting). Does g.B.Base.rest g.B.Base.may_visit g.B.Base.looked_at g.B.Base.ahead w.causes o.made (move y) y m c.advance.new.machine c.in_ok-end.field-0) (same_setting c.args.host.now c.args.machine.now m j c.loop.invariant.shown) (o.so j b) in
           let does = subst (λ (k : Option RunEnd). Does g.B.Base.rest g.B.Base.may_visit g.B.Base.looked_at g.B.Base.ahead w.causes o.made (move x) x m c.advance.new.machine k) c.in-Some-2.is moves in
           let led = subst (λ cs. IsLed g.B.Base.rest g.B.Base.may_visit g.B.Base.looked_at g.B.Base.ahead cs l.made x t m) (sym c.in_ok-end.ensures.seen.causes) (l.so j before) in
           leads_to_end g.B.Base.rest g.B.Base.may_visit g.B.Base.looked_at g.B.Base.ahead w.causes l.made o.made x t c.args.goal.now.shown m c.advance.new.machine c.in-Some-2.end all led does;
@@ -62,7 +62,7 @@ loop-preserved g c =
     let goes = λ (j : Journal) (b : Begins w j).
     let x = setting c.args.host.now c.args.machine.now j in
     subst (λ (k : Option RunEnd). Does g.B.Base.rest g.B.Base.may_visit g.B.Base.looked_at g.B.Base.ahead w.causes o.made (move x) x m c.advance.new.machine k) c.in_default.is
-    (subst (λ (y : Setting). Does g.B.Base.rest g.B.Base.may_visit g.B.Base.looked_at g.B.Base.ahead w.causes o.made (move y) y m c.advance.new.machine c.in_ok-end.field-0) (one_setting c.args.host.now c.args.machine.now m j c.loop.invariant.shown) (o.so j b))
+    (subst (λ (y : Setting). Does g.B.Base.rest g.B.Base.may_visit g.B.Base.looked_at g.B.Base.ahead w.causes o.made (move y) y m c.advance.new.machine c.in_ok-end.field-0) (same_setting c.args.host.now c.args.machine.now m j c.loop.invariant.shown) (o.so j b))
     in
     record {
       seen = grows_trans _ _ _ c.loop.invariant.seen c.in_ok-end.ensures.seen;

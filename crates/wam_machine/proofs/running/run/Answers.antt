@@ -1,10 +1,10 @@
-use Rattle.std.proofs.Common.{◌≡◌, ◌≤◌, ◌++◌, ◌∙◌, ℕ, List, drop, sym, ap, subst, refl}
+use Rattle.std.proofs.Common.{◌≡◌, ◌≤◌, ◌∙◌, ℕ, List, drop, sym, ap, subst, refl}
 use Rattle.prolog_terms.specs.Tree.{Tree}
 use Rattle.prolog_terms.specs.Operators.{Table}
-use Rattle.prolog_terms.specs.declared.entry.Entry.{Entry}
 use Rattle.journals.specs.Journal.{Journal}
 use Rattle.journal_base.specs.View.{View, Grows, Looks, IsSound, entries_by}
-use Rattle.wam_machine.specs.Machine.{Setting, shown_list}
+use Rattle.wam_machine.specs.States.{Setting}
+use Rattle.wam_machine.specs.Machine.{shown_list}
 use Rattle.wam_machine.specs.Runs.{IsRunOf, IsTranscribed}
 use Rattle.wam_machine.specs.Cursors.{Begins}
 use Rattle.prolog_terms.specs.declared.shown.Shown.{Shown}

@@ -1,7 +1,7 @@
 use Rattle.std.proofs.Common.{ap, ◌∙◌, sym, None}
 use Rattle.std.proofs.lemmas.Result.{on_ok_weaker}
 use Rattle.prolog_terms.specs.Faults.{fault_tree}
-use Rattle.wam_machine.specs.Machine.{abolish_at, abolishing, sweeping_named}
+use Rattle.wam_machine.specs.Procedures.{abolish_at, abolishing, sweeping_named}
 use Rattle.wam_machine.specs.Naming.{naming_of}
 use Rattle.wam_machine.specs.Terms.{built}
 use Rattle.wam_machine.specs.View.{setting}

@@ -1,7 +1,7 @@
-use Rattle.std.proofs.Common.{◌≡◌, ap, ◌∙◌, Some}
+use Rattle.std.proofs.Common.{ap, ◌∙◌}
 use Rattle.std.proofs.lemmas.Result.{on_ok_weaker}
 use Rattle.prolog_terms.specs.Faults.{fault_tree}
-use Rattle.wam_machine.specs.Machine.{no_room}
+use Rattle.wam_machine.specs.States.{no_room}
 use Rattle.wam_machine.proofs.Begins.{grows_refl}
 use Rattle.wam_machine.proofs.Asked.{taken_front, taking_front}
 use Rattle.wam_machine.proofs.SweptKinds.{swept_declared, swept_full, swept_already}

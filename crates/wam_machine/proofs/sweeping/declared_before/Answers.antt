@@ -1,6 +1,6 @@
 use Rattle.std.proofs.Common.{ap, ◌∙◌}
 use Rattle.prolog_terms.specs.Faults.{fault_tree}
-use Rattle.wam_machine.specs.Machine.{no_change}
+use Rattle.wam_machine.specs.Procedures.{no_change}
 use Rattle.wam_machine.proofs.SweptKinds.{declared_static, declared_dynamic}
 use Rattle.wam_machine.proofs.sweeping.declared_before.Goals as goal
 

@@ -1,6 +1,6 @@
 use Rattle.std.proofs.Common.{ap, ◌∙◌}
 use Rattle.prolog_terms.specs.Faults.{fault_tree}
-use Rattle.wam_machine.specs.Machine.{no_room}
+use Rattle.wam_machine.specs.States.{no_room}
 use Rattle.wam_machine.proofs.SweptOne.{erased_done, erased_gone, erased_full}
 use Rattle.wam_machine.proofs.sweeping.erase_one.Goals as goal
 

@@ -1,10 +1,9 @@
 use Rattle.std.proofs.Common.{ap, ◌∙◌, sym, subst, Option}
 use Rattle.std.specs.Prelude.{option_map}
-use Rattle.prolog_terms.specs.Tree.{Tree, atom}
 use Rattle.call_patterns.specs.Keys.{keys}
 use Rattle.term_store.specs.declared.cell.Cell.{Cell}
 use Rattle.term_store.specs.Terms.{text}
-use Rattle.wam_machine.specs.Machine.{swept_keys}
+use Rattle.wam_machine.specs.Procedures.{swept_keys}
 use Rattle.wam_machine.specs.Sweeps.{IsSwept}
 use Rattle.wam_machine.specs.Terms.{IsBuilt, built}
 use Rattle.wam_machine.proofs.Built.{grown-itself, atom-built, atom-term}

@@ -2,7 +2,8 @@ use Rattle.std.proofs.Common.{ap, ◌∙◌, subst, Some}
 use Rattle.std.proofs.lemmas.Result.{on_ok_weaker}
 use Rattle.prolog_terms.specs.Faults.{fault_tree}
 use Rattle.prolog_terms.specs.declared.fault.Fault.TheVariants.{Instantiation}
-use Rattle.wam_machine.specs.Machine.{not_callable, retract_all_at, clearing, sweeping_named}
+use Rattle.wam_machine.specs.States.{not_callable}
+use Rattle.wam_machine.specs.Procedures.{retract_all_at, clearing, sweeping_named}
 use Rattle.wam_machine.specs.Heads.{IsHead}
 use Rattle.wam_machine.specs.Terms.{built}
 use Rattle.wam_machine.specs.View.{setting}

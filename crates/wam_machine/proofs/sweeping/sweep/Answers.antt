@@ -1,8 +1,9 @@
-use Rattle.std.proofs.Common.{◌≡◌, ap, ◌∙◌, sym, subst, Option}
+use Rattle.std.proofs.Common.{ap, ◌∙◌, sym, subst, Option}
 use Rattle.std.specs.Prelude.{option_map}
 use Rattle.std.proofs.lemmas.Result.{on_ok_weaker}
 use Rattle.prolog_terms.specs.Tree.{Tree}
-use Rattle.wam_machine.specs.Machine.{Setting, swept_keys, taking}
+use Rattle.wam_machine.specs.States.{Setting, taking}
+use Rattle.wam_machine.specs.Procedures.{swept_keys}
 use Rattle.wam_machine.specs.Sweeps.{IsSweep}
 use Rattle.wam_machine.specs.Terms.{built}
 use Rattle.wam_machine.specs.View.{setting, GoesOn}

@@ -2,7 +2,8 @@ use Rattle.std.proofs.Common.{refl}
 use Rattle.std.proofs.lemmas.Result.{on_ok_weaker}
 use Rattle.std.specs.Prelude.{option_map}
 use Rattle.journals.specs.Journal.{procedure_named}
-use Rattle.wam_machine.specs.Machine.{taking, sweeping_where}
+use Rattle.wam_machine.specs.States.{taking}
+use Rattle.wam_machine.specs.Procedures.{sweeping_where}
 use Rattle.wam_machine.specs.Terms.{built}
 use Rattle.wam_machine.specs.View.{setting}
 use Rattle.wam_machine.proofs.Asked.{taking_front, taken_front, asked_trans}

@@ -2,7 +2,7 @@ use Rattle.std.proofs.Common.{sym, ap, ◌∙◌, Option}
 use Rattle.std.specs.Prelude.{option_map}
 use Rattle.std.proofs.lemmas.Result.{IfOk-weaker}
 use Rattle.term_store.specs.declared.cell.Cell.{Cell}
-use Rattle.wam_machine.specs.Machine.{sweep_at}
+use Rattle.wam_machine.specs.Procedures.{sweep_at}
 use Rattle.wam_machine.proofs.sweeping.sweep_indicator.Goals as goal
 
 pub returns-in-Some : goal.returns-in-Some

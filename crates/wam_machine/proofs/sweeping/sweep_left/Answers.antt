@@ -1,4 +1,4 @@
-use Rattle.std.proofs.Common.{◌≡◌, ◌<◌, ◌+◌, ◌≤◌, ℕ, refl, sym, ap, subst, arith, Some, None}
+use Rattle.std.proofs.Common.{◌≡◌, ◌<◌, ℕ, sym, ap, subst, arith, Some, None}
 use Rattle.journal_base.specs.View.{Out}
 use Rattle.journal_base.specs.declared.tally.Tally.{Tally}
 use Rattle.wam_machine.proofs.Begins.{host_on}

@@ -5,9 +5,8 @@ use Rattle.prolog_terms.specs.declared.entry.Entry.{Entry}
 use Rattle.call_patterns.specs.Keys.{keys}
 use Rattle.term_store.specs.declared.cell.Cell.{Cell}
 use Rattle.journal_base.specs.View.{Out, opened}
-use Rattle.journal_base.specs.Looks.{most_raised}
-use Rattle.wam_machine.specs.Machine.{taking}
-use Rattle.wam_machine.specs.Terms.{Saved, Said, IsBuilt, said, built, use_of, call_now, calls_in}
+use Rattle.wam_machine.specs.States.{taking}
+use Rattle.wam_machine.specs.Terms.{Saved, Said, IsBuilt, built, use_of, call_now, calls_in}
 use Rattle.wam_machine.specs.Cursors.{visits_left}
 use Rattle.wam_machine.specs.View.{setting, calls, AreKept, GoesOn, IsHeld}
 use Rattle.wam_machine.specs.declared.state.Machine.{Machine}

@@ -2,7 +2,8 @@ use Rattle.std.proofs.Common.{◌≡◌, sym, ◌∙◌, Some, None}
 use Rattle.std.specs.Prelude.{option_map}
 use Rattle.std.proofs.lemmas.Result.{on_ok_weaker}
 use Rattle.journals.specs.Journal.{procedure_named}
-use Rattle.wam_machine.specs.Machine.{no_change, sweep_at, sweeping_named, sweeping_where, taking}
+use Rattle.wam_machine.specs.States.{taking}
+use Rattle.wam_machine.specs.Procedures.{no_change, sweep_at, sweeping_named, sweeping_where}
 use Rattle.wam_machine.specs.Terms.{built}
 use Rattle.wam_machine.specs.View.{setting}
 use Rattle.wam_machine.proofs.Begins.{seen_in, grows_trans, host_on}

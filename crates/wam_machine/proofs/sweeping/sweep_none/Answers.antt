@@ -2,7 +2,8 @@ use Rattle.std.proofs.Common.{ap, Option}
 use Rattle.std.specs.Prelude.{option_map}
 use Rattle.std.proofs.lemmas.Result.{on_ok_weaker}
 use Rattle.term_store.specs.declared.cell.Cell.{Cell}
-use Rattle.wam_machine.specs.Machine.{Goes, absent_swept, declaring_swept}
+use Rattle.wam_machine.specs.States.{Goes}
+use Rattle.wam_machine.specs.Procedures.{absent_swept, declaring_swept}
 use Rattle.wam_machine.specs.Terms.{built}
 use Rattle.wam_machine.specs.View.{setting}
 use Rattle.wam_machine.proofs.Asked.{asks_as, asks_nothing}

@@ -1,7 +1,7 @@
 use Rattle.std.proofs.Common.{ap, ◌∙◌}
 use Rattle.std.proofs.lemmas.Result.{IfOk-weaker}
 use Rattle.prolog_terms.specs.Faults.{fault_tree}
-use Rattle.wam_machine.specs.Machine.{no_change}
+use Rattle.wam_machine.specs.Procedures.{no_change}
 use Rattle.wam_machine.proofs.sweeping.unswept.Goals as goal
 
 pub returns : goal.returns

@@ -9,7 +9,7 @@ use Rattle.journal_base.specs.Plain.{Plain, plain_view}
 use Rattle.journal_base.specs.PlainInside.{AreKept}
 use Rattle.journal_base.proofs.PlainViews.{seen_whole}
 use Rattle.journal_base.proofs.PlainSteps.{still_with, in_seen, appends_with}
-use Rattle.journal_base.proofs.Kept.{kept-added, need-add}
+use Rattle.journal_base.proofs.Kept.{kept-added}
 use Rattle.journal_base.proofs.plain.PlainBase.try_add.Goals as goal
 use Rattle.journal_base.proofs.plain.PlainBase.try_add.Goals.{After-add}
 
@@ -17,7 +17,7 @@ pub returns-then-is_full-clause-answer : goal.returns-then-is_full-clause-answer
 returns-then-is_full-clause-answer c = (
   still_with c.self.inside _ c.reserve.new.self.entries c.self.view_is c.self.invariant c.reserve.ensures.entries,
   record {
-    needs = need-add c.args.end c.args.procedure c.args.clause.now ∙ sym c.in_ok-need.ensures;
+    needs = sym (c.in_ok-need.ensures c.args.end c.args.procedure);
     seen = in_seen c.self.inside c.reserve.new.self.entries (λ J. (used J ≡ c.self.inside.used) × (length J ≡ c.count-updates.result))
         (ap used c.reserve.ensures.entries ∙ sym c.self.invariant.summed, sym c.count-updates.ensures);
     full = c.is_full.ensures.full c.if-is_full.true;
@@ -41,7 +41,7 @@ kept c =
     let short : length c.self.inside.ledger.entries < c.self.inside.updates = omega (arith, long, apart, c.self.invariant.legal.few) in
     subst (λ J. AreKept c.self.inside.words c.self.inside.updates J c.self.inside.found c.self.inside.declared (c.self.inside.used + c.in_ok-need.need)) (sym (made c))
     (kept-added _ _ _ _ _ _ c.self.invariant c.self.inside.number c.args.procedure c.args.end c.args.clause.now c.in_ok-need.need may
-    (c.in_ok-need.ensures ∙ sym (need-add c.args.end c.args.procedure c.args.clause.now)) room.0 short)
+    (c.in_ok-need.ensures c.args.end c.args.procedure) room.0 short)
 
 pub invariant_of-self-2 : goal.invariant_of-self-2
 invariant_of-self-2 c = kept (goal.at.invariant_of-self-2 c).After-add

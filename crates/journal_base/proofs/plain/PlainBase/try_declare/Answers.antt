@@ -8,7 +8,7 @@ use Rattle.journal_base.specs.Space.{used}
 use Rattle.journal_base.specs.Plain.{Plain}
 use Rattle.journal_base.specs.PlainInside.{AreKept}
 use Rattle.journal_base.proofs.PlainSteps.{still_with, in_seen, appends_with, continued_with}
-use Rattle.journal_base.proofs.Kept.{kept-declared, kept-still, need-declare, few_declared}
+use Rattle.journal_base.proofs.Kept.{kept-declared, kept-still, few_declared}
 use Rattle.journal_base.proofs.Procedures.{no_number, declared-there}
 use Rattle.journal_base.proofs.plain.PlainBase.try_declare.Goals as goal
 use Rattle.journal_base.proofs.plain.PlainBase.try_declare.Goals.{After-look_up, After-declare}
@@ -38,7 +38,7 @@ returns-then-is_full-clause-answer c = (
   in_seen c.self.inside c.reserve.new.self.entries (λ J. procedure_named J c.args.indicator.now ≡ None)
       (told (goal.at.returns-then-is_full-clause-answer c).After-look_up ∙ c.in_default.is),
   record {
-    needs = need-declare c.args.indicator.now c.args.kind ∙ sym c.declaration_words-need.ensures;
+    needs = sym (c.declaration_words-need.ensures c.args.kind);
     seen = in_seen c.self.inside c.reserve.new.self.entries (λ J. (used J ≡ c.self.inside.used) × (length J ≡ c.count-updates.result))
         (ap used c.reserve.ensures.entries ∙ sym c.self.invariant.summed, sym c.count-updates.ensures);
     full = c.is_full.ensures.full c.if-is_full.true;
@@ -68,7 +68,7 @@ kept c =
     subst (λ (i : Indicator). Updates same_indicator c.make_room.new.found c.enter.new.found i (Some (c.self.inside.declared, c.args.kind))) c.in_ok-key.ensures c.enter.ensures in
     subst (λ J. AreKept c.self.inside.words c.self.inside.updates J c.enter.new.found (c.self.inside.declared + 1) (c.self.inside.used + c.declaration_words-need.result)) (sym (made c))
     (kept-declared _ _ _ _ _ _ (kept-still _ _ _ _ c.self.inside.found c.make_room.new.found _ _ c.self.invariant refl c.make_room.ensures.same) c.enter.new.found c.self.inside.number c.args.indicator.now c.args.kind c.declaration_words-need.result
-    (absent c) may (c.declaration_words-need.ensures ∙ sym (need-declare c.args.indicator.now c.args.kind)) room.0 short updates)
+    (absent c) may (c.declaration_words-need.ensures c.args.kind) room.0 short updates)
 
 pub invariant_of-self-2 : goal.invariant_of-self-2
 invariant_of-self-2 c = kept (goal.at.invariant_of-self-2 c).After-declare

@@ -1,10 +1,10 @@
-use Rattle.std.proofs.Common.{◌≡◌, ◌+◌, ℕ, List, length, sym, ap, ◌∙◌, subst, arith}
+use Rattle.std.proofs.Common.{◌≡◌, ◌≤◌, All, ◌+◌, ℕ, List, length, sym, ap, ◌∙◌, subst, arith}
 use Rattle.term_store.specs.declared.cell.Cell.{Cell}
 use Rattle.term_store.specs.Shape.{Shape}
 use Rattle.term_store.specs.Later.{IsLater}
-use Rattle.term_store.specs.Copies.{behind, AreEnough, IsMade, IsCopy}
+use Rattle.term_store.specs.Copies.{behind, AreEnough, IsMet, IsMade, IsCopy}
 use Rattle.term_store.proofs.Laws.{later-itself, later-further, later-variables}
-use Rattle.term_store.proofs.Unfolds.{unfolding-enough}
+use Rattle.term_store.proofs.Unfolds.{unfolding-enough, unfolding-some}
 use Rattle.term_store.proofs.Rebuilds.{copied-ground, copied}
 use Rattle.term_store.proofs.store.Store.copy_cell.Goals as goal
 use Rattle.term_store.proofs.store.Store.copy_cell.Goals.{In_ok-copy}
@@ -54,3 +54,10 @@ returns-clause-copy c = copy_is (goal.at.returns-clause-copy c).In_ok-copy
 
 pub returns-clause-later : goal.returns-clause-later
 returns-clause-later c = (copy_is (goal.at.returns-clause-later c).In_ok-copy).later
+
+pub rebuild-requires-clause-some : goal.rebuild-requires-clause-some
+rebuild-requires-clause-some c =
+    subst (λ (cs : List Cell). 1 ≤ length cs) (sym c.as_slice.ensures.value) (unfolding-some c.args.self.now c.args.cell c.in_ok-cells.cells.items c.unfold.new.seen c.in_ok-cells.ensures)
+
+pub rebuild-requires-clause-met : goal.rebuild-requires-clause-met
+rebuild-requires-clause-met c = subst (All (IsMet c.unfold.new.seen)) (sym c.as_slice.ensures.value) c.in_ok-cells.ensures.met

@@ -45,13 +45,22 @@ all c =
     let t = c.loop-at-test.false in let zero_at : c.loop-at.at ≡ 0 = omega (arith, t) in
     subst (λ (n : ℕ). AreCells c.loop-at.self c.loop-at.names c.loop-at.stack.items (all_substituted (shifted c.args.from) (forest (drop n c.args.nodes.now)))) zero_at c.loop-at.invariant.cells
 
-pub returns-in-Some-clause-cell : goal.returns-in-Some-clause-cell
-returns-in-Some-clause-cell c =
-    let d = (goal.at.returns-in-Some-clause-cell c).In-Some in
+pub returns-clause-cell : goal.returns-clause-cell
+returns-clause-cell c =
+    let d = (goal.at.returns-clause-cell c).In-Some in
     cells-last c.loop-at.self c.loop-at.names c.loop-at.stack.items c.pop.new.self.items c.in-Some.cell _ (all d) c.in-Some.ensures.items
 
-pub returns-in-Some-clause-term : goal.returns-in-Some-clause-term
-returns-in-Some-clause-term c =
-    let d = (goal.at.returns-in-Some-clause-term c).In-Some in
+pub returns-clause-term : goal.returns-clause-term
+returns-clause-term c =
+    let d = (goal.at.returns-clause-term c).In-Some in
     cells-only c.loop-at.self c.loop-at.names c.loop-at.stack.items c.pop.new.self.items c.in-Some.cell _ (all d) c.in-Some.ensures.items
     (count-substituted (shifted c.args.from) (forest c.args.nodes.now) ∙ c.requires.one)
+
+-- there is one tree, and so one cell
+pub unreachable-requires : goal.unreachable-requires
+unreachable-requires c =
+    let t = c.loop-at-test.false in let zero_at : c.loop-at.at ≡ 0 = omega (arith, t) in
+    let cells = subst (λ (n : ℕ). AreCells c.loop-at.self c.loop-at.names c.loop-at.stack.items (all_substituted (shifted c.args.from) (forest (drop n c.args.nodes.now)))) zero_at c.loop-at.invariant.cells in
+    let k = cells-count c.loop-at.self c.loop-at.names c.loop-at.stack.items c.args.from c.args.nodes.now cells in
+    let one = c.requires.one in let q = c.in-None.ensures.cases in let none : length c.loop-at.stack.items ≡ 0 = omega arith in
+    omega (arith, k, one, none)

@@ -1,9 +1,9 @@
-use Rattle.std.proofs.Common.{◌≡◌, ◌-◌, refl, ap, arith, slice_index_or}
+use Rattle.std.proofs.Common.{◌≡◌, ◌-◌, length, refl, ap, arith, slice_index_or}
 use Rattle.term_store.specs.declared.cell.Cell.TheVariants.{Variable}
 use Rattle.term_store.specs.Shape.{Shape}
 use Rattle.term_store.specs.Copies.{behind}
 use Rattle.term_store.proofs.Laws.{later-further}
-use Rattle.term_store.proofs.Rebuilds.{rebuilding-first, rebuilding-cell, rebuilding-enough, rebuilding-step, rebuilding-end}
+use Rattle.term_store.proofs.Rebuilds.{rebuilding-first, rebuilding-cell, rebuilding-enough, rebuilding-step, rebuilding-end, rebuilding-some, rebuilding-met}
 use Rattle.term_store.proofs.store.Store.rebuild.Goals as goal
 
 pub loop-at-init : goal.loop-at-init
@@ -41,8 +41,20 @@ loop-at-preserved c = record {
       c.rebuild_cell.new.self c.rebuild_cell.new.stack.items c.in_ok-rebuild_cell.ensures.later c.in_ok-rebuild_cell.ensures.rebuilt;
 }
 
-pub returns-in-Some-clause-cell : goal.returns-in-Some-clause-cell
-returns-in-Some-clause-cell c =
+pub returns-clause-cell : goal.returns-clause-cell
+returns-clause-cell c =
     let t = c.loop-at-test.false in let none_left : c.loop-at.at ≡ 0 = omega (arith, t) in
     rebuilding-end (behind c.args.from c.args.seen.now) c.args.self.now c.loop-at.self c.args.cells.now c.loop-at.stack.items c.pop.new.self.items c.in-Some.cell c.loop-at.at none_left
     c.loop-at.invariant.going c.in-Some.ensures.items
+
+pub rebuild_cell-requires-clause-met : goal.rebuild_cell-requires-clause-met
+rebuild_cell-requires-clause-met c =
+    rebuilding-met c.args.seen.now c.args.cells.now c.loop-at.at (slice_index_or c.args.cells.now (c.loop-at.at - 1) (Variable 0)) (Variable 0) c.requires.met c.loop-at-test.true c.loop-at.invariant.low refl
+
+-- there was a cell, and so there is one
+pub unreachable-requires : goal.unreachable-requires
+unreachable-requires c =
+    let t = c.loop-at-test.false in let none_left : c.loop-at.at ≡ 0 = omega (arith, t) in
+    let some = rebuilding-some (behind c.args.from c.args.seen.now) c.args.self.now c.loop-at.self c.args.cells.now c.loop-at.stack.items c.loop-at.at none_left c.requires.some c.loop-at.invariant.going in
+    let q = c.in-None.ensures.cases in let none : length c.loop-at.stack.items ≡ 0 = omega arith in
+    omega (arith, some, none)

@@ -1,8 +1,9 @@
 use Rattle.std.proofs.Common.{◌≡◌, List, sym, ap, ◌∙◌, subst, [], ◌∷◌, length, Bool, false, arith, ◌++◌}
 use Rattle.term_store.specs.declared.solve.Pair.{Pair}
 use Rattle.term_store.specs.Terms.{AreNamed}
-use Rattle.term_store.specs.Later.{IsLater}
+use Rattle.term_store.specs.Later.{IsLater, IsTakenBack}
 use Rattle.term_store.specs.Work.{Outcome, IsStep, IsUnderWay}
+use Rattle.term_store.proofs.Laws.{at-want, taken-back}
 use Rattle.term_store.proofs.Ways.{way-start, way-step, way-smaller, way-later, way-end, way-clash, way-named, way-pair, later-itself}
 use Rattle.term_store.proofs.store.Store.unify.Goals as goal
 use Rattle.term_store.proofs.store.Store.unify.Goals.{Else-not-branch, Then-not-branch}
@@ -71,3 +72,11 @@ pub returns-clause-unified : goal.returns-clause-unified
 returns-clause-unified c = λ t.
     way-end c.args.self.now c.loop-pair.self c.args.a c.args.b c.loop-pair.work.items
     (let q = c.in_default.ensures.cases in let none : length c.loop-pair.work.items ≡ 0 = omega arith in none) c.loop-pair.invariant c.known-2.ensures
+
+pub returns-in_err-push-clause-want : goal.returns-in_err-push-clause-want
+returns-in_err-push-clause-want c = at-want _ _ (taken-back c.args.self.now c.args.self.now (later-itself c.args.self.now))
+
+pub returns-in_err-step-clause-want : goal.returns-in_err-step-clause-want
+returns-in_err-step-clause-want c =
+    at-want _ _ (subst (IsTakenBack c.args.self.now) (sym c.in_err-step.ensures.err)
+    (taken-back c.args.self.now c.loop-pair.self (way-later c.args.self.now c.loop-pair.self c.args.a c.args.b c.loop-pair.work.items c.loop-pair.invariant)))

@@ -2,10 +2,11 @@ use Rattle.std.proofs.Common.{◌≤◌, ℕ, [], sym, ap, subst, arith}
 use Rattle.prolog_terms.specs.Tree.{none, count}
 use Rattle.prolog_terms.specs.Substitutions.{renamed}
 use Rattle.term_store.specs.Shape.{Shape}
+use Rattle.term_store.specs.Later.{IsTakenBack}
 use Rattle.term_store.specs.Puts.{AreFit}
 use Rattle.term_store.specs.Heads.{IsMadeOne, Comes}
 use Rattle.term_store.proofs.Puts.{fit-term}
-use Rattle.term_store.proofs.Laws.{later-itself}
+use Rattle.term_store.proofs.Laws.{later-itself, at-want, taken-back}
 use Rattle.term_store.proofs.Matched.{begun, one-term, all-made, all-refused}
 use Rattle.term_store.proofs.store.Store.unify_new.Goals as goal
 use Rattle.term_store.proofs.store.Store.unify_new.Goals.{After-nodes, After-variables, In_ok-is_one-in-Some}
@@ -62,3 +63,13 @@ pub returns-in_ok-fresh-in-Some-clause-refused : goal.returns-in_ok-fresh-in-Som
 returns-in_ok-fresh-in-Some-clause-refused c =
     all-refused c.match_nodes.new.names c.args.names.now c.args.self.now c.match_nodes.new.self c.known.ensures c.args.term.now c.nodes.result.now c.args.cell c.nodes.ensures.nodes
     c.in_ok-is_one-in-Some.is_one (comes (goal.at.returns-in_ok-fresh-in-Some-clause-refused c).In_ok-is_one-in-Some)
+
+pub returns-in-None-clause-want : goal.returns-in-None-clause-want
+returns-in-None-clause-want c = taken-back c.args.self.now c.args.self.now (later-itself c.args.self.now)
+
+pub returns-in_err-is_one-in-Some-clause-want : goal.returns-in_err-is_one-in-Some-clause-want
+returns-in_err-is_one-in-Some-clause-want c = at-want _ _ (taken-back c.args.self.now c.match_nodes.new.self c.match_nodes.ensures.further.later)
+
+pub returns-in_err-fresh-in-Some-clause-want : goal.returns-in_err-fresh-in-Some-clause-want
+returns-in_err-fresh-in-Some-clause-want c =
+    at-want _ _ (subst (IsTakenBack c.args.self.now) (sym c.in_err-fresh-in-Some.ensures.err) (taken-back c.args.self.now c.match_nodes.new.self c.match_nodes.ensures.further.later))
